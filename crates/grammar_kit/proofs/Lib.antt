@@ -1,0 +1,4 @@
+pub mod Combinators
+pub mod Consequences
+pub mod Loop
+pub mod Sequences

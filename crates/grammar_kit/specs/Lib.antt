@@ -1,0 +1,4 @@
+pub mod Form
+pub mod Exact
+pub mod Gives
+pub mod Sequences

@@ -1,0 +1,6 @@
+pub mod Powers
+pub mod Spelling
+pub mod Front
+pub mod TwosComplement
+pub mod Text
+pub mod Frames

@@ -1,0 +1,4 @@
+pub mod Leb128
+pub mod Signed
+pub mod Name
+pub mod Frame
