@@ -42,3 +42,12 @@ binary w ShrS i j = Some (shift_right_signed (bits w) i j)
 abbrev pub convert : Conv → ℕ → ℕ
 convert S8of32 i = extend_signed 8 32 (wrap 8 i)
 convert S16of32 i = extend_signed 16 32 (wrap 16 i)
+
+-- the width of the operand of a conversion, and that of its result
+abbrev pub width_from : Conv → Width
+width_from S8of32 = W32
+width_from S16of32 = W32
+
+abbrev pub width_to : Conv → Width
+width_to S8of32 = W32
+width_to S16of32 = W32

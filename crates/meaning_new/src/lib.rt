@@ -1,0 +1,4 @@
+// What a module of WebAssembly 3.0 does under a script, as definitions, and the laws that every run keeps.
+#![tactic(auto)]
+
+pub mod laws;
