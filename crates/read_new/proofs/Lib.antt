@@ -1,0 +1,6 @@
+pub mod Arrows
+pub mod Bodies
+pub mod CoreModules
+pub mod Expressions
+pub mod Forms
+pub mod Modules

@@ -1,0 +1,7 @@
+pub mod Answers
+pub mod Bodies
+pub mod Core
+pub mod Faults
+pub mod Parts
+pub mod Spells
+pub mod Typing

@@ -1,0 +1,40 @@
+ghost use Rattle.grammar_kit.specs.Gives.{Gives, GivesOption};
+ghost use Rattle.read_new.specs.Parts.{export_desc, export};
+
+use grammar_kit::{Entry, FormError, read_byte};
+use std::alloc::Global;
+use wasm_ast::lists::Text;
+use wasm_ast::module::{Export, ExportDesc};
+use wasm_frame::names::split_name;
+use wasm_frame::numbers::split_u32;
+
+/// What an export names, and the bytes after it.
+#[tactic(auto, unfolding(crate::specs::Parts::export_desc))]
+fn read_desc(bytes: &[u8]) -> Option<(ExportDesc, &[u8])>
+    ensures { GivesOption (λ p. (p.0, p.1.now)) result (export_desc.read bytes.now) }
+{
+    match read_byte(bytes)? {
+        (0x00, rest) => {
+            let (index, rest) = split_u32(rest)?;
+            Some((ExportDesc::Func(index), rest))
+        }
+        _ => None,
+    }
+}
+
+/// An entry of the export section.
+pub struct ExportEntry;
+
+impl Entry for ExportEntry {
+    type Value = Export;
+
+    ghost form = { export };
+
+    #[tactic(auto, unfolding(crate::specs::Parts::export))]
+    fn entry(alloc: Global, bytes: &[u8]) -> Result<(Export, &[u8]), FormError> {
+        let (name, rest) = split_name(bytes).ok_or(FormError::Malformed)?;
+        let (desc, rest) = read_desc(rest).ok_or(FormError::Malformed)?;
+        let name = Text::new(alloc, name)?;
+        Ok((Export { name, desc }, rest))
+    }
+}

@@ -1,0 +1,101 @@
+// Whether code is typed: one pass over the instructions, over the types of the operands.
+
+ghost use Rattle.std.specs.Prelude.{◌≡◌, List, [], ◌++◌, ◌↔◌, IsTrue, IfOk};
+ghost use Rattle.wasm_ast.specs.declared.module.ty.Ty.{Ty};
+ghost use Rattle.read_new.specs.Typing.{Context, TypedCode, Steps, integer, source, target};
+
+use num_core::operators::{Conv, Width};
+use sqlite_items::at;
+use std::alloc::{AllocError, Global};
+use wasm_ast::module::{Instr, Op, Ty};
+
+/// Whether code takes no operands to these results, in a function with these locals, the parameters
+/// first ("Expressions" of the standard). It fails for want of memory alone. One pass over the code.
+pub fn is_typed(
+    alloc: Global,
+    locals: &[Ty],
+    code: &[Instr],
+    results: &[Ty],
+) -> Result<bool, AllocError>
+    ensures { IfOk result (λ yes. IsTrue yes ↔ TypedCode (record { locals = locals.now }) code.now [] results.now) }
+{
+    let mut operands = Vec::new(alloc);
+    for instr in code {
+        if !step(locals, *instr, &mut operands)? {
+            return Ok(false);
+        }
+    }
+    Ok(operands.as_slice() == results)
+}
+
+/// Takes the operands of an instruction from the top of the stack, and puts its results there. False
+/// where the instruction is not typed or does not find its operands.
+fn step(locals: &[Ty], instr: Instr, operands: &mut Vec<Ty>) -> Result<bool, AllocError>
+    ensures yes { IfOk result (λ yes. IsTrue yes → Steps (record { locals = locals.now }) instr operands.old.items operands.new.items) }
+    ensures only { IfOk result (λ yes. (after : List Ty) → Steps (record { locals = locals.now }) instr operands.old.items after → IsTrue yes) }
+{
+    match instr {
+        Instr::LocalGet(index) => match at(locals, index as usize) {
+            Some(ty) => replace(operands, &[], &[*ty]),
+            None => Ok(false),
+        },
+        Instr::Pure(op) => step_pure(op, operands),
+    }
+}
+
+/// A step of an instruction that touches no state.
+fn step_pure(op: Op, operands: &mut Vec<Ty>) -> Result<bool, AllocError>
+    ensures yes { (c : Context) → IfOk result (λ yes. IsTrue yes → Steps c (Instr.Pure op) operands.old.items operands.new.items) }
+    ensures only { (c : Context) → IfOk result (λ yes. (after : List Ty) → Steps c (Instr.Pure op) operands.old.items after → IsTrue yes) }
+{
+    match op {
+        Op::I32Const(_) => replace(operands, &[], &[Ty::I32]),
+        Op::Binary(width, _) => {
+            let ty = integer(width);
+            replace(operands, &[ty, ty], &[ty])
+        }
+        Op::Convert(conversion) => {
+            replace(operands, &[source(conversion)], &[target(conversion)])
+        }
+    }
+}
+
+/// Replaces operands on top of the stack by results. False where they do not stand there.
+fn replace(operands: &mut Vec<Ty>, takes: &[Ty], gives: &[Ty]) -> Result<bool, AllocError>
+    ensures yes { IfOk result (λ yes. IsTrue yes → (below : List Ty) × (operands.old.items ≡ below ++ takes.now) × (operands.new.items ≡ below ++ gives.now)) }
+    ensures only { IfOk result (λ yes. (below : List Ty) → operands.old.items ≡ below ++ takes.now → IsTrue yes) }
+{
+    if !operands.ends_with(takes) {
+        return Ok(false);
+    }
+    operands.truncate(operands.len() - takes.len());
+    operands.extend_from_slice(gives)?;
+    Ok(true)
+}
+
+/// The type of the integers of a width.
+fn integer(width: Width) -> Ty
+    ensures { result ≡ integer width }
+{
+    match width {
+        Width::W32 => Ty::I32,
+    }
+}
+
+/// The type that a conversion takes.
+fn source(conversion: Conv) -> Ty
+    ensures { result ≡ source conversion }
+{
+    match conversion {
+        Conv::S8of32 | Conv::S16of32 => Ty::I32,
+    }
+}
+
+/// The type that a conversion gives.
+fn target(conversion: Conv) -> Ty
+    ensures { result ≡ target conversion }
+{
+    match conversion {
+        Conv::S8of32 | Conv::S16of32 => Ty::I32,
+    }
+}
