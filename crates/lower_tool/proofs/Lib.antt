@@ -1,0 +1,13 @@
+pub mod Appending
+pub mod HeldLemmas
+pub mod Image
+pub mod KnownLemmas
+pub mod MemoryLemmas
+pub mod PairLemmas
+pub mod SameEvents
+pub mod Shown
+pub mod Simulation
+pub mod Soundness
+pub mod Spelled
+pub mod TypedLowered
+pub mod WordLemmas

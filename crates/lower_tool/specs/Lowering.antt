@@ -1,0 +1,21 @@
+-- What the lowering takes and makes, as bytes.
+use Rattle.std.specs.Prelude.{ℕ, List}
+use Rattle.wasm_ast.specs.declared.module.parts.Module.{Module}
+use Rattle.meaning_core1.specs.Typing.{Typed1}
+use Rattle.meaning_core1.specs.declared.module.parts.Module1.{Module1}
+use Rattle.read_new.specs.Spells.{SpellsCore}
+use Rattle.lower_tool.specs.Grammar1.{Spells1}
+use Rattle.lower_tool.specs.Headline.{Same}
+
+-- how many captured exceptions a lowered module has room for, where a command does not say
+abbrev pub default_captures : ℕ
+default_captures = 4096
+
+-- these bytes are a module that the lowering takes
+unfoldable pub IsCoreFile : List ℕ → Type 0
+IsCoreFile bytes = (m : Module) × SpellsCore bytes m
+
+-- The second are the bytes of a lowering of the first, for a store of so many captured exceptions: they spell a
+-- module that the rules of 1.0 type, and that shows what the first shows, with at most 4 d + 16 live frames.
+abbrev pub Lowers : ℕ → List ℕ → List ℕ → Type 0
+Lowers captures bytes written = (m : Module) × (m1 : Module1) × SpellsCore bytes m × Spells1 written m1 × Typed1 m1 × Same 4 16 m m1 captures

@@ -1,0 +1,29 @@
+-- How a script for a 3.0 module becomes a script for the lowered module: this project's own mapping.
+use Rattle.std.specs.Prelude.{List, [], ◌∷◌, map}
+use Rattle.std.specs.List.{flat_map}
+use Rattle.wasm_ast.specs.declared.module.parts.Module.{Module}
+use Rattle.wasm_ast.specs.declared.module.ty.Ty.{Ty}
+use Rattle.wasm_ast.specs.declared.module.ty.Ty.TheVariants.{I32 as i32_type}
+use Rattle.wasm_ast.specs.declared.script.items.Item.{Item}
+use Rattle.wasm_ast.specs.declared.script.items.Item.TheVariants.{Call}
+use Rattle.wasm_ast.specs.declared.script.items.Script.{Script}
+use Rattle.wasm_ast.specs.declared.script.value.Value.{Value}
+use Rattle.wasm_ast.specs.declared.script.value.Value.TheVariants.{I32}
+use Rattle.meaning_core1.specs.declared.module.ty.Ty1.{Ty1}
+use Rattle.meaning_core1.specs.declared.module.ty.Ty1.TheVariants.{I32 as i32_type1}
+
+-- the types of 1.0 that stand for a type: i32 stands for itself
+abbrev pub flattened : Ty → List Ty1
+flattened i32_type = i32_type1 ∷ []
+
+-- the values of 1.0 that stand for a value, lowest first
+abbrev pub flatten : Value → List Value
+flatten (I32 n) = I32 n ∷ []
+
+-- a call has its arguments flattened
+abbrev pub map_item : Item → Item
+map_item (Call name arguments) = Call name (flat_map flatten arguments)
+
+-- the script for the lowered module; the answers to growths stay
+abbrev pub map_script : Module → Script → Script
+map_script m s = record { grows = s.grows; items = map map_item s.items }
