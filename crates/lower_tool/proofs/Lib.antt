@@ -1,4 +1,5 @@
 pub mod Appending
+pub mod Built
 pub mod HeldLemmas
 pub mod Image
 pub mod KnownLemmas

@@ -84,6 +84,7 @@ flatten_typed [] [] h = tt
 flatten_typed [] (t ∷ ts) h = absurd h
 flatten_typed (v ∷ vs) [] h = absurd h
 flatten_typed (values.I32 i ∷ vs) (types.I32 ∷ ts) h = (h.0, flatten_typed vs ts h.1)
+flatten_typed (values.I32 i ∷ vs) (_ ∷ ts) h = absurd h.0
 
 item_fits_lowered : (m : Module) (it : Item) → FitsItem m it → FitsItem1 (lowered m) (map_item it)
 item_fits_lowered m (Call name args) f = record {
@@ -110,7 +111,7 @@ regrown_depth m s grows n = refl
 module _ (m : Module) (captures : ℕ) (s : Script) (sound : SoundModule m) (fits : Fits m s) where
   -- what the host of the input would see of the output is what it sees of the input
   unmapped_is : (n : ℕ) → unmapped m (lowered m) s n ≡ seen (trace m s n)
-  unmapped_is n = ap (λ marks. unmap m s (seen marks)) (same_trace m s n) ∙ unmap_fit m s (trace m s n) (trace_fits m s n sound fits)
+  unmapped_is n = ap (λ marks. unmap m s (seen marks)) (same_trace m sound s n) ∙ unmap_fit m s (trace m s n) (trace_fits m s n sound fits)
 
   out_to_in : (n : ℕ) → OutToIn 4 16 m (lowered m) captures s n
   out_to_in n =
@@ -121,7 +122,7 @@ module _ (m : Module) (captures : ℕ) (s : Script) (sound : SoundModule m) (fit
         grows = grows;
         begins = ([], append-nil grows);
         same = inl ([], append-nil (unmapped m (lowered m) s n) ∙ unmapped_is n ∙ ap seen (sym (regrown_trace m s grows n)));
-        frames = λ few. omega (arith, same_depth m s n, regrown_depth m s grows n);
+        frames = λ few. omega (arith, same_depth m sound s n, regrown_depth m s grows n);
       }
 
   shows : (n : ℕ) → Begins (seen (safe m captures (trace m s n))) (unmapped m (lowered m) s n)
@@ -131,7 +132,7 @@ module _ (m : Module) (captures : ℕ) (s : Script) (sound : SoundModule m) (fit
   same_under : SameUnder 4 16 m (lowered m) captures s
   same_under = record {
     fits = record { items = items_fit_lowered m s.items fits.items };
-    mapped_events = λ n. subst (λ marks. FitEvents m s (events marks)) (sym (same_trace m s n)) (events_fit m s (trace m s n) (trace_fits m s n sound fits));
+    mapped_events = λ n. subst (λ marks. FitEvents m s (events marks)) (sym (same_trace m sound s n)) (events_fit m s (trace m s n) (trace_fits m s n sound fits));
     out_to_in = out_to_in;
     in_to_out = λ n. record { turns = n; shows = shows n };
     direct = shows;

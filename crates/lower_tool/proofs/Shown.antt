@@ -31,7 +31,7 @@ use Rattle.read_new.specs.Typing.{TypedCode}
 use Rattle.lower_tool.specs.Constants.{ConstantFits}
 use Rattle.lower_tool.specs.Mapping.{flattened}
 use Rattle.lower_tool.specs.Unmapping.{exported_type, item_type, called_type, results_of, grouped, unmap_event, FitsEvent}
-use Rattle.lower_tool.proofs.Soundness.{Sound, sound_code, defaults_typed, types_append, types_length, types_reverse}
+use Rattle.lower_tool.proofs.Soundness.{AreI32, Sound, sound_code, defaults_typed, types_append, types_length, types_reverse}
 
 next_place : (i j : ℕ) → i + suc j ≡ i + 1 + j
 next_place i j = omega arith
@@ -39,6 +39,8 @@ next_place i j = omega arith
 -- a function of which soundness speaks
 pub record SoundFunc (type : FuncType) (body : Body) : Type 0 where
   pub one : length type.results ≤ 1
+  pub results : AreI32 type.results
+  pub locals : AreI32 body.locals
   pub typed : TypedCode (record { locals = type.params ++ body.locals }) body.code [] type.results
   pub constants : AllByRecursion ConstantFits body.code
 
@@ -51,7 +53,7 @@ grouped_typed : (vs : List Value) (ts : List Ty) → HaveTypes vs ts → grouped
 grouped_typed [] [] h = refl
 grouped_typed [] (t ∷ ts) h = absurd h
 grouped_typed (v ∷ vs) [] h = absurd h
-grouped_typed (v ∷ vs) (types.I32 ∷ ts) h = ap (λ ws. v ∷ ws) (grouped_typed vs ts h.1)
+grouped_typed (v ∷ vs) (t ∷ ts) h = ap (λ ws. v ∷ ws) (grouped_typed vs ts h.1)
 
 -- a single result is its own flattening
 first_result : (vs : List Value) (ts : List Ty) → length ts ≤ 1 → HaveTypes vs ts → HaveTypes1 vs (take 1 (flat_map flattened ts))
@@ -59,6 +61,7 @@ first_result [] [] le h = tt
 first_result (v ∷ vs) [] le h = absurd h
 first_result [] (t ∷ ts) le h = absurd h
 first_result (values.I32 i ∷ []) (types.I32 ∷ []) le h = (h.0, tt)
+first_result (values.I32 i ∷ []) (_ ∷ []) le h = absurd h.0
 first_result (v ∷ (w ∷ vs)) (t ∷ []) le h = absurd h.1
 first_result (v ∷ vs) (t ∷ (u ∷ ts)) le h = let no : ⊥ = omega arith in absurd no
 
@@ -120,7 +123,7 @@ module _ (m : Module) (s : Script) where
     enter_fits x n args t None sound typed is h k = trap_fits (with_args args t) k
     enter_fits x n args t (Some body) sound typed is h k =
         let f = sound.each x type body typed is in
-        let locals : HaveTypes (reverse (reverse args) ++ map default body.locals) (type.params ++ body.locals) = rw (reverse-reverse args) (types_append args (map default body.locals) type.params body.locals h (defaults_typed body.locals)) in
+        let locals : HaveTypes (reverse (reverse args) ++ map default body.locals) (type.params ++ body.locals) = rw (reverse-reverse args) (types_append args (map default body.locals) type.params body.locals h (defaults_typed body.locals f.locals)) in
         body_fits body (opened 0 t) n (exec_code body.code 1 n (entered body 0 (with_args args t))) f
         (sound_code (record { locals = type.params ++ body.locals }) body.code [] type.results f.typed f.constants 1 n (entered body 0 (with_args args t)) tt locals) k
 

@@ -3,16 +3,15 @@ use Rattle.std.proofs.Common.{◌≡◌, ℕ, zero, suc, ◌-◌, ◌<◌, ◌^�
 use Rattle.std.specs.Prelude.{option_map}
 use Rattle.std.specs.List.{AllByRecursion}
 use Rattle.std.proofs.lemmas.List.{append-nil, reverse-append}
-use Rattle.num_core.specs.Integers.{binary, convert}
+use Rattle.num_core.specs.Integers.{binary, convert, width_from, width_to}
 use Rattle.num_core.specs.declared.operators.Bin.{Bin}
 use Rattle.num_core.specs.declared.operators.Conv.{Conv}
 use Rattle.num_core.specs.declared.operators.Conv.TheVariants.{S8of32, S16of32}
-use Rattle.num_core.specs.declared.operators.Width.{Width}
 use Rattle.num_core.specs.declared.operators.Width.TheVariants.{W32}
 use Rattle.num_core.proofs.Ranges.{binary_below, convert_below}
 use Rattle.wasm_ast.specs.declared.module.code.Instr.{Instr}
 use Rattle.wasm_ast.specs.declared.module.code.Instr.TheVariants.{LocalGet, Pure}
-use Rattle.wasm_ast.specs.declared.module.code.Op.TheVariants.{I32Const, Binary, Convert}
+use Rattle.wasm_ast.specs.declared.module.op.Op.TheVariants.{I32Const, Binary, Convert}
 use Rattle.wasm_ast.specs.declared.module.ty.Ty.{Ty}
 use Rattle.wasm_ast.specs.declared.module.ty.Ty.TheVariants as types
 use Rattle.wasm_ast.specs.declared.script.value.Value.{Value}
@@ -24,7 +23,7 @@ use Rattle.meaning_new.specs.Fitting.{HasType, HaveTypes}
 use Rattle.meaning_new.specs.Instructions.{exec_code, plain, with_operands}
 use Rattle.meaning_new.specs.Values.{default, local_at}
 use Rattle.lower_tool.specs.Constants.{ConstantFits}
-use Rattle.read_new.specs.Typing.{Context, Typed, TypedCode, i32_const, binary as binary_rule, convert as convert_rule, local_get, none, more, integer, source, target}
+use Rattle.read_new.specs.Typing.{Context, Typed, TypedCode, i32_const, binary as binary_rule, convert as convert_rule, local_get, none, more}
 
 -- What an instruction or code comes to: operands of these types (the top first on the stack, last among the types),
 -- locals of the context, the state as it was; or a trap in that state.
@@ -59,7 +58,7 @@ sound_binary_result : (ctx : Context) (below : List Ty) (op : Bin) (i j : ℕ) (
     → SoundRes ctx (below ++ types.I32 ∷ []) s (with_operands (record { operands = values.I32 j ∷ (values.I32 i ∷ rest); locals = locals; state = s }) (option_map (λ v. values.I32 v ∷ rest) r))
 sound_binary_result ctx below op i j rest locals s None e p q h l = refl
 sound_binary_result ctx below op i j rest locals s (Some r) e p q h l =
-    (types_push below types.I32 (values.I32 r) rest (binary_below W32 op i j r p q e) h, l, refl)
+    (types_push below types.I32 (values.I32 r) rest (binary_below W32 i j r p q op e) h, l, refl)
 
 -- two operands on the top, the second highest
 sound_two : (ctx : Context) (below : List Ty) (op : Bin) (operands locals : List Value) (s : State) → HaveTypes operands (types.I32 ∷ (types.I32 ∷ reverse below)) → HaveTypes locals ctx.locals
@@ -69,26 +68,23 @@ sound_two ctx below op (v ∷ []) locals s h l = absurd h.1
 sound_two ctx below op (values.I32 j ∷ (values.I32 i ∷ rest)) locals s h l =
     sound_binary_result ctx below op i j rest locals s (binary W32 op i j) refl h.1.0 h.0 h.1.1 l
 
-sound_binary : (ctx : Context) (below : List Ty) (w : Width) (op : Bin) (c : Conf) → HaveTypes c.operands (reverse (below ++ integer w ∷ (integer w ∷ []))) → HaveTypes c.locals ctx.locals → SoundRes ctx (below ++ integer w ∷ []) c.state (plain (Pure (Binary w op)) c)
-sound_binary ctx below W32 op c h l =
+sound_binary : (ctx : Context) (below : List Ty) (op : Bin) (c : Conf) → HaveTypes c.operands (reverse (below ++ types.I32 ∷ (types.I32 ∷ []))) → HaveTypes c.locals ctx.locals → SoundRes ctx (below ++ types.I32 ∷ []) c.state (plain (Pure (Binary W32 op)) c)
+sound_binary ctx below op c h l =
     let operands : HaveTypes c.operands (types.I32 ∷ (types.I32 ∷ reverse below)) = rw reverse-append at h in
     sound_two ctx below op c.operands c.locals c.state operands l
 
 -- one operand on the top
-sound_one : (ctx : Context) (below : List Ty) (op : Conv) (operands locals : List Value) (s : State) → HaveTypes operands (types.I32 ∷ reverse below) → HaveTypes locals ctx.locals
-    → SoundRes ctx (below ++ target op ∷ []) s (plain (Pure (Convert op)) (record { operands = operands; locals = locals; state = s }))
-sound_one ctx below op [] locals s h l = absurd h
-sound_one ctx below S8of32 (values.I32 i ∷ rest) locals s h l = (types_push below types.I32 (values.I32 (convert S8of32 i)) rest (convert_below S8of32 i) h.1, l, refl)
-sound_one ctx below S16of32 (values.I32 i ∷ rest) locals s h l = (types_push below types.I32 (values.I32 (convert S16of32 i)) rest (convert_below S16of32 i) h.1, l, refl)
+sound_one : (ctx : Context) (below : List Ty) (op : Conv) (operands locals : List Value) (s : State) → width_from op ≡ W32 → width_to op ≡ W32 → HaveTypes operands (types.I32 ∷ reverse below) → HaveTypes locals ctx.locals
+    → SoundRes ctx (below ++ types.I32 ∷ []) s (plain (Pure (Convert op)) (record { operands = operands; locals = locals; state = s }))
+sound_one ctx below op [] locals s from to h l = absurd h
+sound_one ctx below S8of32 (values.I32 i ∷ rest) locals s from to h l = (types_push below types.I32 (values.I32 (convert S8of32 i)) rest (convert_below S8of32 i h.0) h.1, l, refl)
+sound_one ctx below S16of32 (values.I32 i ∷ rest) locals s from to h l = (types_push below types.I32 (values.I32 (convert S16of32 i)) rest (convert_below S16of32 i h.0) h.1, l, refl)
+sound_one ctx below _ (values.I32 i ∷ rest) locals s from to h l = absurd cc
 
-source_is : (op : Conv) → source op ≡ types.I32
-source_is S8of32 = refl
-source_is S16of32 = refl
-
-sound_convert : (ctx : Context) (below : List Ty) (op : Conv) (c : Conf) → HaveTypes c.operands (reverse (below ++ source op ∷ [])) → HaveTypes c.locals ctx.locals → SoundRes ctx (below ++ target op ∷ []) c.state (plain (Pure (Convert op)) c)
-sound_convert ctx below op c h l =
-    let operands : HaveTypes c.operands (types.I32 ∷ reverse below) = rw (source_is op, reverse-append) at h in
-    sound_one ctx below op c.operands c.locals c.state operands l
+sound_convert : (ctx : Context) (below : List Ty) (op : Conv) (c : Conf) → width_from op ≡ W32 → width_to op ≡ W32 → HaveTypes c.operands (reverse (below ++ types.I32 ∷ [])) → HaveTypes c.locals ctx.locals → SoundRes ctx (below ++ types.I32 ∷ []) c.state (plain (Pure (Convert op)) c)
+sound_convert ctx below op c from to h l =
+    let operands : HaveTypes c.operands (types.I32 ∷ reverse below) = rw reverse-append at h in
+    sound_one ctx below op c.operands c.locals c.state from to operands l
 
 sound_local : (ctx : Context) (below : List Ty) (x : ℕ) (t : Ty) (c : Conf) → slice_get ctx.locals x ≡ Some t → HaveTypes c.operands (reverse (below ++ [])) → HaveTypes c.locals ctx.locals → SoundRes ctx (below ++ t ∷ []) c.state (plain (LocalGet x) c)
 sound_local ctx below x t c e h l = (types_push below t (local_at c.locals x) c.operands (local_typed c.locals ctx.locals x t l e) (rw append-nil at h), l, refl)
@@ -96,11 +92,11 @@ sound_local ctx below x t c e h l = (types_push below t (local_at c.locals x) c.
 -- one typed instruction
 sound_instruction : (ctx : Context) (i : Instr) (below takes gives : List Ty) (c : Conf) → Typed ctx i takes gives → ConstantFits i → HaveTypes c.operands (reverse (below ++ takes)) → HaveTypes c.locals ctx.locals → SoundRes ctx (below ++ gives) c.state (plain i c)
 sound_instruction ctx i below takes gives c (i32_const _ _ n e) fits h l =
-    subst (λ j. SoundRes ctx (below ++ types.I32 ∷ []) c.state (plain j c)) (sym e) (sound_const ctx below n c (subst ConstantFits e fits) h l)
-sound_instruction ctx i below takes gives c (binary_rule _ _ w op e) fits h l =
-    subst (λ j. SoundRes ctx (below ++ integer w ∷ []) c.state (plain j c)) (sym e) (sound_binary ctx below w op c h l)
-sound_instruction ctx i below takes gives c (convert_rule _ _ op e) fits h l =
-    subst (λ j. SoundRes ctx (below ++ target op ∷ []) c.state (plain j c)) (sym e) (sound_convert ctx below op c h l)
+    subst (λ j. SoundRes ctx (below ++ types.I32 ∷ []) c.state (plain j c)) (sym e) (sound_const ctx below n c (fits n e) h l)
+sound_instruction ctx i below takes gives c (binary_rule _ _ op e) fits h l =
+    subst (λ j. SoundRes ctx (below ++ types.I32 ∷ []) c.state (plain j c)) (sym e) (sound_binary ctx below op c h l)
+sound_instruction ctx i below takes gives c (convert_rule _ _ op e from to) fits h l =
+    subst (λ j. SoundRes ctx (below ++ types.I32 ∷ []) c.state (plain j c)) (sym e) (sound_convert ctx below op c from to h l)
 sound_instruction ctx i below takes gives c (local_get _ _ x t e got) fits h l =
     subst (λ j. SoundRes ctx (below ++ t ∷ []) c.state (plain j c)) (sym e) (sound_local ctx below x t c got h l)
 
@@ -119,10 +115,14 @@ sound_code ctx code before after_types (more _ i rest below takes gives _ typed 
     (sound_next ctx rest (below ++ gives) after_types d (λ m c'. sound_code ctx rest (below ++ gives) after_types typed_rest fits.1 d m c')
     c.state (plain i c) (n - 0) (sound_instruction ctx i below takes gives c typed fits.0 h l))
 
+-- all the types are i32, the type whose values are built
+abbrev pub AreI32 : List Ty → Type 0
+AreI32 ts = AllByRecursion (λ t. t ≡ types.I32) ts
+
 -- declared locals begin as values of their types
-pub defaults_typed : (ts : List Ty) → HaveTypes (map default ts) ts
-defaults_typed [] = tt
-defaults_typed (types.I32 ∷ ts) = (lit< tt, defaults_typed ts)
+pub defaults_typed : (ts : List Ty) → AreI32 ts → HaveTypes (map default ts) ts
+defaults_typed [] all = tt
+defaults_typed (t ∷ ts) all = (subst (λ u. HasType (default u) u) (sym all.0) (lit< tt), defaults_typed ts all.1)
 
 pub types_append : (vs ws : List Value) (ts us : List Ty) → HaveTypes vs ts → HaveTypes ws us → HaveTypes (vs ++ ws) (ts ++ us)
 types_append [] ws [] us h k = k

@@ -1,34 +1,41 @@
 -- What the writer of each part appends is spelled by its form.
-use Rattle.std.proofs.Common.{◌≡◌, ℕ, ◌+◌, ◌<◌, ◌^◌, List, [], ◌∷◌, ◌++◌, length, map, refl, sym, ap, ◌∙◌, append_assoc, one-add, subst}
+use Rattle.std.proofs.Common.{◌≡◌, ℕ, zero, suc, arith, get_or, ◌+◌, ◌<◌, ◌^◌, List, [], ◌∷◌, ◌++◌, length, map, refl, sym, ap, ◌∙◌, append_assoc, one-add, subst}
 use Rattle.std.proofs.lemmas.List.{append-nil}
 use Rattle.std.proofs.lemmas.List.Sums.{sum_by-cons}
 use Rattle.std.specs.Prelude.{replicate, sum_by}
-use Rattle.std.specs.List.{flat_map}
+use Rattle.std.specs.List.{AllByRecursion, flat_map}
 use Rattle.num_core.specs.declared.operators.Bin.{Bin}
-use Rattle.num_core.specs.declared.operators.Bin.TheVariants.{Add, Shl, ShrS}
+use Rattle.num_core.specs.declared.operators.Bin.TheVariants.{Add, Sub, Mul, DivS, DivU, RemS, RemU, And, Or, Xor, Shl, ShrS, ShrU, Rotl, Rotr}
 use Rattle.num_core.specs.declared.operators.Width.{Width}
 use Rattle.num_core.specs.declared.operators.Width.TheVariants.{W32}
-use Rattle.meaning_core1.specs.declared.module.code.Body1.{Body1}
-use Rattle.meaning_core1.specs.declared.module.code.Instr1.{Instr1}
-use Rattle.meaning_core1.specs.declared.module.code.Instr1.TheVariants.{LocalGet, Pure}
-use Rattle.meaning_core1.specs.declared.module.code.Op1.TheVariants.{I32Const, Binary}
-use Rattle.meaning_core1.specs.declared.module.parts.Export1.{Export1}
-use Rattle.meaning_core1.specs.declared.module.parts.ExportDesc1.TheVariants.{Func}
-use Rattle.meaning_core1.specs.declared.module.parts.Module1.{Module1}
-use Rattle.meaning_core1.specs.declared.module.ty.FuncType1.{FuncType1}
-use Rattle.meaning_core1.specs.declared.module.ty.Ty1.{Ty1}
-use Rattle.meaning_core1.specs.declared.module.ty.Ty1.TheVariants as types
+use Rattle.core1_ast.specs.declared.module.code.Body1.{Body1}
+use Rattle.core1_ast.specs.declared.module.code.Instr1.{Instr1}
+use Rattle.core1_ast.specs.declared.module.code.Instr1.TheVariants.{Unreachable, LocalGet, Pure}
+use Rattle.core1_ast.specs.declared.module.op.Op1.TheVariants.{I32Const, Binary}
+use Rattle.core1_ast.specs.declared.module.parts.Export1.{Export1}
+use Rattle.core1_ast.specs.declared.module.parts.ExportDesc1.{ExportDesc1}
+use Rattle.core1_ast.specs.declared.module.parts.ExportDesc1.TheVariants as descs
+use Rattle.core1_ast.specs.declared.module.parts.Module1.{Module1}
+use Rattle.core1_ast.specs.declared.module.ty.FuncType1.{FuncType1}
+use Rattle.core1_ast.specs.declared.module.ty.Ty1.{Ty1}
+use Rattle.core1_ast.specs.declared.module.ty.Ty1.TheVariants as types
 use Rattle.grammar_kit.specs.Form.{Form, always, byte, raw, ◌>>=◌, many, vector}
 use Rattle.wasm_frame.specs.Leb128.{u32, s32}
 use Rattle.wasm_frame.specs.Frame.{section, head}
 use Rattle.wasm_frame.specs.Name.{name, byte_vector}
 use Rattle.lower_tool.specs.Appends.{Appends, AppendsSection}
-use Rattle.lower_tool.specs.Grammar1.{value_type1, function_type1, export_desc1, export1, instruction1, opcode1, group1, one_local, Expression1, AppendsExpression, BodyText1, BodyTexts1, Spells1}
+use Rattle.lower_tool.specs.Grammar1.{value_type1, type_byte, function_type1, export_desc1, kind_byte, index_of, export1, instruction1, IsBuilt1, unreachable, local_get, i32_const, binary, IsBare1, opcode1, group1, one_local, Expression1, AppendsExpression, BodyText1, BodyTexts1, Spells1}
 use Rattle.lower_tool.proofs.Appending.{appends_always, appends_bind, appends_map}
 
-pub value_type_appends : (old new : List ℕ) (t : Ty1) → Appends byte old new 0x7F → Appends value_type1 old new t
+type_written : (old new : List ℕ) (t : Ty1) → Appends byte old new (type_byte t) → Appends value_type1 old new t
 unfolding value_type1
-value_type_appends old new types.I32 p = appends_bind byte _ old new new 0x7F types.I32 p (appends_always types.I32 new)
+type_written old new types.I32 p = appends_bind byte _ old new new 0x7F types.I32 p (appends_always types.I32 new)
+type_written old new types.I64 p = appends_bind byte _ old new new 0x7E types.I64 p (appends_always types.I64 new)
+type_written old new types.F32 p = appends_bind byte _ old new new 0x7D types.F32 p (appends_always types.F32 new)
+type_written old new types.F64 p = appends_bind byte _ old new new 0x7C types.F64 p (appends_always types.F64 new)
+
+pub value_type_appends : (old new : List ℕ) (t : Ty1) (code : ℕ) → code ≡ type_byte t → Appends byte old new code → Appends value_type1 old new t
+value_type_appends old new t code e p = type_written old new t (subst (λ k. Appends byte old new k) e p)
 
 pub function_type_appends : (a b c d : List ℕ) (t : FuncType1) (params results : List Ty1) → params ≡ t.params → results ≡ t.results → Appends byte a b 0x60 → Appends (vector u32 value_type1) b c params → Appends (vector u32 value_type1) c d results → Appends function_type1 a d t
 unfolding function_type1
@@ -39,10 +46,16 @@ function_type_appends a b c d t params results e f p q r =
     (appends_bind (vector u32 value_type1) (λ params. vector u32 value_type1 >>= λ results. always (record { params = params; results = results })) b c d t.params t written
     (appends_map (vector u32 value_type1) (λ results. record { params = t.params; results = results }) c d t.results written'))
 
-pub export_desc_appends : (old middle new : List ℕ) (x : ℕ) → Appends byte old middle 0x00 → Appends u32 middle new x → Appends export_desc1 old new (Func x)
+desc_written : (old middle new : List ℕ) (d : ExportDesc1) → Appends byte old middle (kind_byte d) → Appends u32 middle new (index_of d) → Appends export_desc1 old new d
 unfolding export_desc1
-export_desc_appends old middle new x p q =
-    appends_bind byte _ old middle new 0x00 (Func x) p (appends_map u32 (λ x. Func x) middle new x q)
+desc_written old middle new (descs.Func x) p q = appends_bind byte _ old middle new 0x00 (descs.Func x) p (appends_map u32 (λ x. descs.Func x) middle new x q)
+desc_written old middle new (descs.Table x) p q = appends_bind byte _ old middle new 0x01 (descs.Table x) p (appends_map u32 (λ x. descs.Table x) middle new x q)
+desc_written old middle new (descs.Memory x) p q = appends_bind byte _ old middle new 0x02 (descs.Memory x) p (appends_map u32 (λ x. descs.Memory x) middle new x q)
+desc_written old middle new (descs.Global x) p q = appends_bind byte _ old middle new 0x03 (descs.Global x) p (appends_map u32 (λ x. descs.Global x) middle new x q)
+
+pub export_desc_appends : (old middle new : List ℕ) (d : ExportDesc1) (kind index : ℕ) → kind ≡ kind_byte d → index ≡ index_of d → Appends byte old middle kind → Appends u32 middle new index → Appends export_desc1 old new d
+export_desc_appends old middle new d kind index e f p q =
+    desc_written old middle new d (subst (λ k. Appends byte old middle k) e p) (subst (λ x. Appends u32 middle new x) f q)
 
 pub export_appends : (a b c : List ℕ) (e : Export1) (text : List ℕ) → text ≡ e.name → Appends name a b text → Appends export_desc1 b c e.desc → Appends export1 a c e
 unfolding export1
@@ -50,6 +63,10 @@ export_appends a b c e text is p q =
     let written : Appends name a b e.name = subst (λ n. Appends name a b n) is p in
     appends_bind name (λ n. export_desc1 >>= λ d. always (record { name = n; desc = d })) a b c e.name e written
     (appends_map export_desc1 (λ d. record { name = e.name; desc = d }) b c e.desc q)
+
+pub unreachable_appends : (a b : List ℕ) → Appends byte a b 0x00 → Appends instruction1 a b Unreachable
+unfolding instruction1
+unreachable_appends a b p = appends_bind byte _ a b b 0x00 Unreachable p (appends_always Unreachable b)
 
 pub local_get_appends : (a b c : List ℕ) (x : ℕ) → Appends byte a b 0x20 → Appends u32 b c x → Appends instruction1 a c (LocalGet x)
 unfolding instruction1
@@ -59,14 +76,40 @@ pub const_appends : (a b c : List ℕ) (n : ℕ) → Appends byte a b 0x41 → A
 unfolding instruction1
 const_appends a b c n p q = appends_bind byte _ a b c 0x41 (Pure (I32Const n)) p (appends_map s32 (λ n. Pure (I32Const n)) b c n q)
 
-binary_written : (a b : List ℕ) (w : Width) (op : Bin) → Appends byte a b (opcode1 w op) → Appends instruction1 a b (Pure (Binary w op))
+binary_written : (a b : List ℕ) (op : Bin) → Appends byte a b (opcode1 op) → Appends instruction1 a b (Pure (Binary W32 op))
 unfolding instruction1
-binary_written a b W32 Add p = appends_bind byte _ a b b 0x6A (Pure (Binary W32 Add)) p (appends_always (Pure (Binary W32 Add)) b)
-binary_written a b W32 Shl p = appends_bind byte _ a b b 0x74 (Pure (Binary W32 Shl)) p (appends_always (Pure (Binary W32 Shl)) b)
-binary_written a b W32 ShrS p = appends_bind byte _ a b b 0x75 (Pure (Binary W32 ShrS)) p (appends_always (Pure (Binary W32 ShrS)) b)
+binary_written a b Add p = appends_bind byte _ a b b 0x6A (Pure (Binary W32 Add)) p (appends_always (Pure (Binary W32 Add)) b)
+binary_written a b Sub p = appends_bind byte _ a b b 0x6B (Pure (Binary W32 Sub)) p (appends_always (Pure (Binary W32 Sub)) b)
+binary_written a b Mul p = appends_bind byte _ a b b 0x6C (Pure (Binary W32 Mul)) p (appends_always (Pure (Binary W32 Mul)) b)
+binary_written a b DivS p = appends_bind byte _ a b b 0x6D (Pure (Binary W32 DivS)) p (appends_always (Pure (Binary W32 DivS)) b)
+binary_written a b DivU p = appends_bind byte _ a b b 0x6E (Pure (Binary W32 DivU)) p (appends_always (Pure (Binary W32 DivU)) b)
+binary_written a b RemS p = appends_bind byte _ a b b 0x6F (Pure (Binary W32 RemS)) p (appends_always (Pure (Binary W32 RemS)) b)
+binary_written a b RemU p = appends_bind byte _ a b b 0x70 (Pure (Binary W32 RemU)) p (appends_always (Pure (Binary W32 RemU)) b)
+binary_written a b And p = appends_bind byte _ a b b 0x71 (Pure (Binary W32 And)) p (appends_always (Pure (Binary W32 And)) b)
+binary_written a b Or p = appends_bind byte _ a b b 0x72 (Pure (Binary W32 Or)) p (appends_always (Pure (Binary W32 Or)) b)
+binary_written a b Xor p = appends_bind byte _ a b b 0x73 (Pure (Binary W32 Xor)) p (appends_always (Pure (Binary W32 Xor)) b)
+binary_written a b Shl p = appends_bind byte _ a b b 0x74 (Pure (Binary W32 Shl)) p (appends_always (Pure (Binary W32 Shl)) b)
+binary_written a b ShrS p = appends_bind byte _ a b b 0x75 (Pure (Binary W32 ShrS)) p (appends_always (Pure (Binary W32 ShrS)) b)
+binary_written a b ShrU p = appends_bind byte _ a b b 0x76 (Pure (Binary W32 ShrU)) p (appends_always (Pure (Binary W32 ShrU)) b)
+binary_written a b Rotl p = appends_bind byte _ a b b 0x77 (Pure (Binary W32 Rotl)) p (appends_always (Pure (Binary W32 Rotl)) b)
+binary_written a b Rotr p = appends_bind byte _ a b b 0x78 (Pure (Binary W32 Rotr)) p (appends_always (Pure (Binary W32 Rotr)) b)
 
-pub binary_appends : (a b : List ℕ) (w : Width) (op : Bin) (code : ℕ) → code ≡ opcode1 w op → Appends byte a b code → Appends instruction1 a b (Pure (Binary w op))
-binary_appends a b w op code e p = binary_written a b w op (subst (λ k. Appends byte a b k) e p)
+-- a binary operator that has a form is one on i32
+built_width : (w : Width) (op : Bin) → IsBuilt1 (Pure (Binary w op)) → w ≡ W32
+built_width w op (unreachable _ e) = absurd cc
+built_width w op (local_get _ x e) = absurd cc
+built_width w op (i32_const _ n e) = absurd cc
+built_width w op (binary _ o e) = cc
+
+pub binary_appends : (a b : List ℕ) (w : Width) (op : Bin) (code : ℕ) → IsBuilt1 (Pure (Binary w op)) → code ≡ opcode1 op → Appends byte a b code → Appends instruction1 a b (Pure (Binary w op))
+binary_appends a b w op code built e p =
+    subst (λ v. Appends instruction1 a b (Pure (Binary v op))) (sym (built_width w op built)) (binary_written a b op (subst (λ k. Appends byte a b k) e p))
+
+-- what holds of each item holds of the one at a place
+pub all_at : {A : Type 0} (P : A → Type 0) (xs : List A) (k : ℕ) (x : A) → AllByRecursion P xs → k < length xs → x ≡ get_or xs k x → P x
+all_at P [] k x h within is = let no : ⊥ = omega arith in absurd no
+all_at P (y ∷ xs) zero x h within is = subst P (sym is) h.0
+all_at P (y ∷ xs) (suc k) x h within is = let less : k < length xs = omega arith in all_at P xs k x h.1 less is
 
 pub group_appends : (a b c : List ℕ) (t : Ty1) → Appends u32 a b 1 → Appends value_type1 b c t → Appends group1 a c (one_local t)
 unfolding group1
@@ -160,8 +203,8 @@ regroup x s t u v = simp append_assoc
 -- the head and the four sections are a module
 pub module_spelled : (a b c d out : List ℕ) (m : Module1) (texts : List (List ℕ)) → a ≡ head
     → AppendsSection function_type1 1 a b m.types → AppendsSection u32 3 b c m.funcs → AppendsSection export1 7 c d m.exports → AppendsSection byte_vector 10 d out texts
-    → BodyTexts1 texts m.codes → Spells1 out m
-module_spelled a b c d out m texts start types funcs exports codes bodies =
+    → BodyTexts1 texts m.codes → IsBare1 m → Spells1 out m
+module_spelled a b c d out m texts start types funcs exports codes bodies bare =
     let s = types.whole.bytes in
     let t = funcs.whole.bytes in
     let u = exports.whole.bytes in
@@ -205,4 +248,5 @@ module_spelled a b c d out m texts start types funcs exports codes bodies =
       codes = codes.spells;
       bodies = bodies;
       built = (refl, (refl, (refl, (refl, tt))));
+      bare = bare;
     }

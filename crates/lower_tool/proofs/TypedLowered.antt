@@ -1,5 +1,5 @@
 -- The lowered module is typed by the rules of 1.0.
-use Rattle.std.proofs.Common.{◌≡◌, ℕ, zero, suc, List, [], ◌∷◌, ◌++◌, length, map, Some, slice_get, refl, sym, ap, ◌∙◌, subst, append_assoc, arith, lit<}
+use Rattle.std.proofs.Common.{◌≡◌, ℕ, zero, suc, List, [], ◌∷◌, ◌++◌, length, map, Some, slice_get, refl, sym, ap, ◌∙◌, subst, append_assoc, arith, lit<, lit≤}
 use Rattle.std.specs.Prelude.{◌≢◌, AllPairs, option_and_then}
 use Rattle.std.specs.List.{AllByRecursion, flat_map}
 use Rattle.std.proofs.lemmas.Grind.{flat_map-append}
@@ -8,27 +8,28 @@ use Rattle.num_core.specs.declared.operators.Bin.{Bin}
 use Rattle.num_core.specs.declared.operators.Bin.TheVariants.{Shl, ShrS}
 use Rattle.num_core.specs.declared.operators.Conv.{Conv}
 use Rattle.num_core.specs.declared.operators.Conv.TheVariants.{S8of32, S16of32}
-use Rattle.num_core.specs.declared.operators.Width.{Width}
+use Rattle.num_core.specs.Integers.{width_from, width_to}
 use Rattle.num_core.specs.declared.operators.Width.TheVariants.{W32}
 use Rattle.wasm_ast.specs.declared.module.code.Instr.{Instr}
-use Rattle.wasm_ast.specs.declared.module.code.Op.TheVariants as source_op
+use Rattle.wasm_ast.specs.declared.module.op.Op.TheVariants as source_op
 use Rattle.wasm_ast.specs.declared.module.code.Body.{Body}
 use Rattle.wasm_ast.specs.declared.module.parts.Module.{Module}
 use Rattle.wasm_ast.specs.declared.module.ty.FuncType.{FuncType}
 use Rattle.wasm_ast.specs.declared.module.ty.Ty.{Ty}
 use Rattle.wasm_ast.specs.declared.module.ty.Ty.TheVariants as types
-use Rattle.meaning_core1.specs.declared.module.code.Instr1.{Instr1}
-use Rattle.meaning_core1.specs.declared.module.code.Instr1.TheVariants as target
-use Rattle.meaning_core1.specs.declared.module.code.Op1.TheVariants as target_op
-use Rattle.meaning_core1.specs.declared.module.ty.Ty1.{Ty1}
-use Rattle.meaning_core1.specs.declared.module.ty.Ty1.TheVariants as types1
-use Rattle.meaning_core1.specs.Typing as old
+use Rattle.core1_ast.specs.declared.module.code.Instr1.{Instr1}
+use Rattle.core1_ast.specs.declared.module.code.Instr1.TheVariants as target
+use Rattle.core1_ast.specs.declared.module.op.Op1.TheVariants as target_op
+use Rattle.core1_ast.specs.declared.module.ty.Ty1.{Ty1}
+use Rattle.core1_ast.specs.declared.module.ty.Ty1.TheVariants as types1
+use Rattle.core1_ast.specs.Typing as old
 use Rattle.read_new.specs.Core.{IsCore, core_type}
 use Rattle.read_new.specs.Typing as new
 use Rattle.lower_tool.specs.Constants.{ConstantFits, HasFittingConstants}
 use Rattle.lower_tool.specs.Lowered.{lowered, lowered_instruction, lowered_pure, lowered_type, lowered_body, lowered_export, shifts_by}
 use Rattle.lower_tool.specs.Mapping.{flattened}
 use Rattle.lower_tool.specs.Room.{HasRoom}
+use Rattle.lower_tool.proofs.Soundness.{AreI32}
 use Rattle.lower_tool.proofs.Shown.{SoundFunc, SoundModule}
 
 abbrev flat : List Ty → List Ty1
@@ -66,33 +67,32 @@ module _ (c : old.Context) where
       (shifted Shl n below) (shifted ShrS n below)
 
 -- a local keeps its place and its type
-flat_local : (ts : List Ty) (x : ℕ) (t : Ty) → slice_get ts x ≡ Some t → (u : Ty1) × (flattened t ≡ u ∷ []) × (slice_get (flat ts) x ≡ Some u)
-flat_local [] x t e = absurd cc
-flat_local (types.I32 ∷ ts) zero types.I32 e = (types1.I32, refl, refl)
-flat_local (types.I32 ∷ ts) (suc x) t e = flat_local ts x t e
+flat_local : (ts : List Ty) (x : ℕ) (t : Ty) → AreI32 ts → slice_get ts x ≡ Some t → (t ≡ types.I32) × (slice_get (flat ts) x ≡ Some types1.I32)
+flat_local [] x t all e = absurd cc
+flat_local (types.I32 ∷ ts) zero t all e = (cc, refl)
+flat_local (types.I32 ∷ ts) (suc x) t all e = flat_local ts x t all.1 e
+flat_local (_ ∷ ts) x t all e = absurd (cc all.0)
 
 module _ (c : old.Context) where
-  typed_binary : (w : Width) (op : Bin) (below : List Ty) → old.TypedCode c (lowered_pure (source_op.Binary w op)) (flat below ++ flat (new.integer w ∷ (new.integer w ∷ []))) (flat below ++ flat (new.integer w ∷ []))
-  typed_binary W32 op below = operator c op (flat below)
+  typed_convert : (op : Conv) (below : List Ty) → width_from op ≡ W32 → width_to op ≡ W32 → old.TypedCode c (lowered_pure (source_op.Convert op)) (flat below ++ types1.I32 ∷ []) (flat below ++ types1.I32 ∷ [])
+  typed_convert S8of32 below from to = shifts c 24 (flat below)
+  typed_convert S16of32 below from to = shifts c 16 (flat below)
+  typed_convert _ below from to = absurd cc
 
-  typed_convert : (op : Conv) (below : List Ty) → old.TypedCode c (lowered_pure (source_op.Convert op)) (flat below ++ flat (new.source op ∷ [])) (flat below ++ flat (new.target op ∷ []))
-  typed_convert S8of32 below = shifts c 24 (flat below)
-  typed_convert S16of32 below = shifts c 16 (flat below)
-
-module _ (ctx : new.Context) (c : old.Context) (same : c.locals ≡ flat ctx.locals) where
+module _ (ctx : new.Context) (c : old.Context) (same : c.locals ≡ flat ctx.locals) (all : AreI32 ctx.locals) where
   typed_instruction : (i : Instr) (below takes gives : List Ty) → new.Typed ctx i takes gives → old.TypedCode c (lowered_instruction i) (flat below ++ flat takes) (flat below ++ flat gives)
   typed_instruction i below takes gives (new.i32_const _ _ n e) =
       subst (λ j. old.TypedCode c (lowered_instruction j) (flat below ++ []) (flat below ++ types1.I32 ∷ [])) (sym e)
       (subst (λ before. old.TypedCode c (target.Pure (target_op.I32Const n) ∷ []) before (flat below ++ types1.I32 ∷ [])) (sym (append-nil (flat below))) (constant c n (flat below)))
-  typed_instruction i below takes gives (new.binary _ _ w op e) =
-      subst (λ j. old.TypedCode c (lowered_instruction j) (flat below ++ flat (new.integer w ∷ (new.integer w ∷ []))) (flat below ++ flat (new.integer w ∷ []))) (sym e) (typed_binary c w op below)
-  typed_instruction i below takes gives (new.convert _ _ op e) =
-      subst (λ j. old.TypedCode c (lowered_instruction j) (flat below ++ flat (new.source op ∷ [])) (flat below ++ flat (new.target op ∷ []))) (sym e) (typed_convert c op below)
+  typed_instruction i below takes gives (new.binary _ _ op e) =
+      subst (λ j. old.TypedCode c (lowered_instruction j) (flat below ++ types1.I32 ∷ (types1.I32 ∷ [])) (flat below ++ types1.I32 ∷ [])) (sym e) (operator c op (flat below))
+  typed_instruction i below takes gives (new.convert _ _ op e from to) =
+      subst (λ j. old.TypedCode c (lowered_instruction j) (flat below ++ types1.I32 ∷ []) (flat below ++ types1.I32 ∷ [])) (sym e) (typed_convert c op below from to)
   typed_instruction i below takes gives (new.local_get _ _ x t e got) =
-      let found = flat_local ctx.locals x t got in
+      let found = flat_local ctx.locals x t all got in
       subst (λ j. old.TypedCode c (lowered_instruction j) (flat below ++ []) (flat below ++ (flattened t ++ []))) (sym e)
-      (subst (λ ts. old.TypedCode c (target.LocalGet x ∷ []) (flat below ++ []) (flat below ++ (ts ++ []))) (sym found.1)
-      (one c (target.LocalGet x) (flat below) [] (found.0 ∷ []) (old.local_get c _ x found.0 refl (ap (λ ls. slice_get ls x) same ∙ found.2))))
+      (subst (λ u. old.TypedCode c (target.LocalGet x ∷ []) (flat below ++ []) (flat below ++ (flattened u ++ []))) (sym found.0)
+      (one c (target.LocalGet x) (flat below) [] (types1.I32 ∷ []) (old.local_get c _ x types1.I32 refl (ap (λ ls. slice_get ls x) same ∙ found.1))))
 
   -- typed code has typed code as its lowered code
   pub typed_code : (code : List Instr) (before after : List Ty) → new.TypedCode ctx code before after → old.TypedCode c (flat_map lowered_instruction code) (flat before) (flat after)
@@ -110,14 +110,26 @@ typed_lowered m core short =
     let func : old.TypedFunc (lowered m) 0 (lowered_body body) = record {
       type = lowered_type core_type;
       declared = ap (λ ts. slice_get (map lowered_type ts) 0) core.types;
-      typed = typed_code (record { locals = types.I32 ∷ [] }) (record { locals = types1.I32 ∷ [] }) refl core.code [] (types.I32 ∷ []) core.typed;
+      typed = record {
+        locals = tt;
+        code = typed_code (record { locals = types.I32 ∷ [] }) (old.body_context (lowered m) (lowered_type core_type) (lowered_body body)) refl (refl, tt) core.code [] (types.I32 ∷ []) core.typed;
+      };
     } in
     record {
-      types = subst (λ ts. AllByRecursion old.TypedFuncType (map lowered_type ts)) (sym core.types) (omega arith, tt);
+      types = subst (λ ts. AllByRecursion old.TypedFuncType (map lowered_type ts)) (sym core.types) (record { params = (tt, tt); results = (tt, tt); one = lit≤ tt }, tt);
+      imports = tt;
       funcs = subst (λ fs. old.TypedFuncs (lowered m) fs (map lowered_body m.codes)) (sym core.funcs)
           (subst (λ bs. old.TypedFuncs (lowered m) (0 ∷ []) (map lowered_body bs)) (sym core.bodies) (func, tt));
+      tables = tt;
+      memories = tt;
+      globals = tt;
       exports = subst (λ es. AllByRecursion (λ e. old.TypedDesc (lowered m) e.desc) (map lowered_export es)) (sym core.exports)
           (omega (arith, ap length core.funcs), tt);
+      start = tt;
+      elems = tt;
+      datas = tt;
+      one_table = lit≤ tt;
+      one_memory = lit≤ tt;
       names = subst (λ es. AllPairs (λ a b. a.name ≢ b.name) (map lowered_export es)) (sym core.exports)
           (λ i j d before last. let no : ⊥ = omega arith in absurd no);
       short = short;
@@ -139,7 +151,7 @@ sound_core m core constants = record {
   each = λ x type body typed has.
       let only = only_function m.types m.funcs m.codes (record { locals = []; code = core.code }) body type x core.types core.funcs core.bodies typed has in
       subst (λ t. SoundFunc t body) (sym only.0) (subst (λ b. SoundFunc core_type b) (sym only.1)
-      (record { one = omega arith; typed = core.typed; constants = constants }));
+      (record { one = omega arith; results = (refl, tt); locals = tt; typed = core.typed; constants = constants }));
 }
 
 -- the lists of a core module's lowered module are short, where its name and its code have room
@@ -150,6 +162,16 @@ short_lowered m core room =
     record {
       types = subst (λ ts. old.IsShort (map lowered_type ts)) (sym core.types) (lit< tt);
       funcs = subst (λ (fs : List ℕ). old.IsShort fs) (sym core.funcs) (lit< tt);
+      imports = lit< tt;
+      tables = lit< tt;
+      memories = lit< tt;
+      globals = lit< tt;
+      elems = lit< tt;
+      datas = lit< tt;
+      in_imports = tt;
+      in_globals = tt;
+      in_elems = tt;
+      in_datas = tt;
       exports = subst (λ es. old.IsShort (map lowered_export es)) (sym core.exports) (lit< tt);
       codes = subst (λ bs. old.IsShort (map lowered_body bs)) (sym core.bodies) (lit< tt);
       in_types = subst (λ ts. AllByRecursion old.IsShortType (map lowered_type ts)) (sym core.types) (record { params = lit< tt; results = lit< tt }, tt);

@@ -1,8 +1,8 @@
 -- Two small modules that differ in one result.
-use Rattle.std.specs.Prelude.{List, [], ◌∷◌}
+use Rattle.std.specs.Prelude.{[], ◌∷◌}
 use Rattle.wasm_ast.specs.declared.module.parts.Module.{Module}
-use Rattle.meaning_core1.specs.declared.module.code.Instr1.TheVariants.{LocalGet}
-use Rattle.meaning_core1.specs.declared.module.parts.Module1.{Module1}
+use Rattle.core1_ast.specs.declared.module.code.Instr1.TheVariants.{LocalGet}
+use Rattle.core1_ast.specs.declared.module.parts.Module1.{Module1}
 use Rattle.meaning_core1.specs.Example as example1
 use Rattle.meaning_new.specs.Example as example
 

@@ -10,7 +10,7 @@ use Rattle.meaning_new.specs.Fitting.{Fits}
 use Rattle.meaning_new.specs.Modules.{trace, depth}
 use Rattle.meaning_core1.specs.Fitting.{Fits1}
 use Rattle.meaning_core1.specs.Modules.{trace1, depth1}
-use Rattle.meaning_core1.specs.declared.module.parts.Module1.{Module1}
+use Rattle.core1_ast.specs.declared.module.parts.Module1.{Module1}
 use Rattle.lower_tool.specs.Mapping.{map_script}
 use Rattle.lower_tool.specs.Unmapping.{unmap, FitEvents}
 

@@ -1,8 +1,8 @@
 -- What the lowering takes and makes, as bytes.
 use Rattle.std.specs.Prelude.{ℕ, List}
 use Rattle.wasm_ast.specs.declared.module.parts.Module.{Module}
-use Rattle.meaning_core1.specs.Typing.{Typed1}
-use Rattle.meaning_core1.specs.declared.module.parts.Module1.{Module1}
+use Rattle.core1_ast.specs.Typing.{Typed1}
+use Rattle.core1_ast.specs.declared.module.parts.Module1.{Module1}
 use Rattle.read_new.specs.Spells.{SpellsCore}
 use Rattle.lower_tool.specs.Grammar1.{Spells1}
 use Rattle.lower_tool.specs.Headline.{Same}

@@ -3,18 +3,26 @@ use Rattle.std.specs.Prelude.{List, [], ◌∷◌, map}
 use Rattle.std.specs.List.{flat_map}
 use Rattle.wasm_ast.specs.declared.module.parts.Module.{Module}
 use Rattle.wasm_ast.specs.declared.module.ty.Ty.{Ty}
-use Rattle.wasm_ast.specs.declared.module.ty.Ty.TheVariants.{I32 as i32_type}
+use Rattle.wasm_ast.specs.declared.module.ty.Ty.TheVariants as types
 use Rattle.wasm_ast.specs.declared.script.items.Item.{Item}
 use Rattle.wasm_ast.specs.declared.script.items.Item.TheVariants.{Call}
 use Rattle.wasm_ast.specs.declared.script.items.Script.{Script}
 use Rattle.wasm_ast.specs.declared.script.value.Value.{Value}
 use Rattle.wasm_ast.specs.declared.script.value.Value.TheVariants.{I32}
-use Rattle.meaning_core1.specs.declared.module.ty.Ty1.{Ty1}
-use Rattle.meaning_core1.specs.declared.module.ty.Ty1.TheVariants.{I32 as i32_type1}
+use Rattle.core1_ast.specs.declared.module.ty.Ty1.{Ty1}
+use Rattle.core1_ast.specs.declared.module.ty.Ty1.TheVariants as types1
 
--- the types of 1.0 that stand for a type: i32 stands for itself
+-- The types of 1.0 that stand for a type, lowest first. A vector is two i64, a reference is an i32, and a number
+-- stands for itself
 abbrev pub flattened : Ty → List Ty1
-flattened i32_type = i32_type1 ∷ []
+flattened types.I32 = types1.I32 ∷ []
+flattened types.I64 = types1.I64 ∷ []
+flattened types.F32 = types1.F32 ∷ []
+flattened types.F64 = types1.F64 ∷ []
+flattened types.V128 = types1.I64 ∷ (types1.I64 ∷ [])
+flattened types.Func = types1.I32 ∷ []
+flattened types.Extern = types1.I32 ∷ []
+flattened types.Exn = types1.I32 ∷ []
 
 -- the values of 1.0 that stand for a value, lowest first
 abbrev pub flatten : Value → List Value

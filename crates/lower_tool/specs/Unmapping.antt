@@ -7,7 +7,6 @@ use Rattle.wasm_ast.specs.declared.module.parts.ExportDesc.TheVariants.{Func}
 use Rattle.wasm_ast.specs.declared.module.parts.Module.{Module}
 use Rattle.wasm_ast.specs.declared.module.ty.FuncType.{FuncType}
 use Rattle.wasm_ast.specs.declared.module.ty.Ty.{Ty}
-use Rattle.wasm_ast.specs.declared.module.ty.Ty.TheVariants as types
 use Rattle.wasm_ast.specs.declared.script.event.Event.{Event}
 use Rattle.wasm_ast.specs.declared.script.event.Event.TheVariants.{Started, Failed, Returned, Trapped, Done, Full}
 use Rattle.wasm_ast.specs.declared.script.items.Item.{Item}
@@ -23,6 +22,7 @@ use Rattle.lower_tool.specs.Mapping.{flattened}
 -- the type of what a module exports, where that is a function
 abbrev pub exported_type : Module → ExportDesc → Option FuncType
 exported_type m (Func x) = type_at m x
+exported_type m _ = None
 
 -- the type of the function that an item calls
 abbrev pub item_type : Module → Item → Option FuncType
@@ -36,15 +36,16 @@ abbrev pub results_of : Option FuncType → List Ty
 results_of None = []
 results_of (Some type) = type.results
 
--- the types of the exported globals, in export order; modules have no globals yet
+-- the types of the exported globals, in export order; core modules have no globals
 abbrev pub exported_globals : Module → List Ty
 exported_globals m = []
 
--- words grouped into values of these types; what is missing reads as 0, so that the definition is total
+-- words grouped into values of these types; what is missing reads as 0, so that the definition is total. Values of
+-- other types than i32 are not built yet: each type takes one word
 abbrev pub grouped : List Ty → List Value → List Value
 grouped [] words = []
-grouped (types.I32 ∷ more) [] = I32 0 ∷ grouped more []
-grouped (types.I32 ∷ more) (word ∷ words) = word ∷ grouped more words
+grouped (type ∷ more) [] = I32 0 ∷ grouped more []
+grouped (type ∷ more) (word ∷ words) = word ∷ grouped more words
 
 -- results are grouped by the input's types, and only the input's own globals stay
 abbrev pub unmap_event : Module → Script → Event → Event

@@ -8,10 +8,10 @@ mod module;
 
 use crate::writing::write_module;
 use module::lower_core;
+use num_core::lists::Bytes;
 use read_new::{ReadFault, read};
 use std::alloc::{AllocError, Global};
 use thiserror::Error;
-use wasm_ast::lists::Bytes;
 
 /// Why bytes were not lowered.
 #[derive(Debug, Drop, Error)]

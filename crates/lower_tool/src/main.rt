@@ -12,12 +12,12 @@ pub mod tool;
 mod writing;
 
 use files::DirFiles;
+use num_core::lists::{Text, Texts};
 use sink::StdoutSink;
 use std::process::ExitCode;
 use std::rt::Env;
 use std::{env, io};
 use tool::{Stop, report, tool, usage};
-use wasm_ast::lists::{Text, Texts};
 
 fn main(rt: HostRuntime) -> ExitCode {
     let mut out = StdoutSink::new(&rt);

@@ -5,10 +5,11 @@ ghost use Rattle.lower_tool.specs.Words.{IsLower};
 use crate::files::{FailAt, MemFiles, SafeFiles};
 use crate::sink::{MemSink, SafeSink};
 use crate::tool::tool;
+use num_core::lists::{Bytes, Text, Texts, TryCopy};
 use std::alloc::{AllocError, Global};
 use std::process::Abort;
 use std::test::Fail;
-use wasm_ast::lists::{Bytes, Text, Texts, TryCopy, Types};
+use wasm_ast::lists::Types;
 use wasm_ast::module::Ty;
 
 /// A module of one function, `local.get 0 i32.extend8_s`, that is exported as `f`.

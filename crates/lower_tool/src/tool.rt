@@ -9,8 +9,8 @@ ghost use Rattle.lower_tool.specs.Statuses.{Prints, Lowered, CutShort, TakesWith
 ghost use Rattle.lower_tool.specs.Stops.{line_of, status_of};
 ghost use Rattle.lower_tool.specs.Verdict.{IsFine, IsRefusal};
 ghost use Rattle.lower_tool.specs.Words.{IsCommand, ByLower, IfLower};
-ghost use Rattle.meaning_core1.specs.Typing.{Typed1};
-ghost use Rattle.meaning_core1.specs.declared.module.parts.Module1.{Module1};
+ghost use Rattle.core1_ast.specs.Typing.{Typed1};
+ghost use Rattle.core1_ast.specs.declared.module.parts.Module1.{Module1};
 ghost use Rattle.read_new.specs.Spells.{SpellsCore};
 ghost use Rattle.wasm_ast.specs.declared.module.parts.Module.{Module};
 
@@ -25,12 +25,12 @@ mod stop;
 use crate::files::{FileFault, Files};
 use crate::sink::Sink;
 use command::command;
+use num_core::lists::Texts;
 use output::write_file;
 use prepare::prepare;
 use print::print;
 use std::alloc::Global;
 pub use stop::{Refusal, Stop};
-use wasm_ast::lists::Texts;
 
 /// Runs the command that the words are, and gives its status. The one command is `lower IN OUT`.
 pub fn tool<F: Files, S: Sink>(alloc: Global, words: &Texts, files: &mut F, out: &mut S) -> u8

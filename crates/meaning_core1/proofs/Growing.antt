@@ -4,16 +4,17 @@ use Rattle.std.specs.List.{AllByRecursion}
 use Rattle.std.proofs.lemmas.List.Elements.{All-from_recursion}
 use Rattle.num_core.specs.Integers.{binary}
 use Rattle.num_core.specs.declared.operators.Width.{Width}
+use Rattle.num_core.specs.declared.operators.Width.TheVariants.{W32}
 use Rattle.wasm_ast.specs.Trace.{Mark, Shows, Begins}
 use Rattle.wasm_ast.proofs.Marks.{begins_same, begins_append, begins_trans}
-use Rattle.meaning_core1.specs.declared.module.parts.Module1.{Module1}
-use Rattle.meaning_core1.specs.declared.module.parts.ExportDesc1.{ExportDesc1}
-use Rattle.meaning_core1.specs.declared.module.parts.ExportDesc1.TheVariants.{Func}
-use Rattle.meaning_core1.specs.declared.module.ty.FuncType1.{FuncType1}
-use Rattle.meaning_core1.specs.declared.module.code.Body1.{Body1}
-use Rattle.meaning_core1.specs.declared.module.code.Op1.TheVariants.{I32Const, Binary}
-use Rattle.meaning_core1.specs.declared.module.code.Instr1.{Instr1}
-use Rattle.meaning_core1.specs.declared.module.code.Instr1.TheVariants.{LocalGet, Pure}
+use Rattle.core1_ast.specs.declared.module.parts.Module1.{Module1}
+use Rattle.core1_ast.specs.declared.module.parts.ExportDesc1.{ExportDesc1}
+use Rattle.core1_ast.specs.declared.module.parts.ExportDesc1.TheVariants.{Func}
+use Rattle.core1_ast.specs.declared.module.ty.FuncType1.{FuncType1}
+use Rattle.core1_ast.specs.declared.module.code.Body1.{Body1}
+use Rattle.core1_ast.specs.declared.module.op.Op1.TheVariants.{I32Const, Binary}
+use Rattle.core1_ast.specs.declared.module.code.Instr1.{Instr1}
+use Rattle.core1_ast.specs.declared.module.code.Instr1.TheVariants.{LocalGet, Pure}
 use Rattle.wasm_ast.specs.declared.script.items.Item.{Item}
 use Rattle.wasm_ast.specs.declared.script.items.Item.TheVariants.{Call}
 use Rattle.wasm_ast.specs.declared.script.items.Script.{Script}
@@ -80,7 +81,9 @@ binop_stays w (Some i) c = refl
 simple_stays : (i : Instr1) (c : Conf1) → state_of (simple i c) ≡ c.state
 simple_stays (LocalGet x) c = refl
 simple_stays (Pure (I32Const i)) c = refl
-simple_stays (Pure (Binary w op)) c = binop_stays w (binary w op (top_int1 w (popped c.stack)) (top_int1 w c.stack)) c
+simple_stays (Pure (Binary W32 op)) c = binop_stays W32 (binary W32 op (top_int1 W32 (popped c.stack)) (top_int1 W32 c.stack)) c
+simple_stays (Pure _) c = refl
+simple_stays _ c = refl
 
 exec_grows : (i : Instr1) (open_calls : ℕ) → GrowsFrom order in_state (exec1 i open_calls)
 unfolding order
@@ -120,6 +123,7 @@ call_grows m x open_calls = record {
 invoke_grows : (m : Module1) (o : Option ExportDesc1) (args : List Value) (s : State1) → Grows order state_of s (λ n. invoke1 m o args n s)
 invoke_grows m None args s = grows_done order state_of s 0 (Leave Trap (with_args1 args s)) (order.stays s)
 invoke_grows m (Some (Func x)) args s = (call_grows m x 0).from (with_args1 args s)
+invoke_grows m (Some _) args s = grows_done order state_of s 0 (Leave Trap (with_args1 args s)) (order.stays s)
 
 abbrev itself : State1 → State1
 itself s = s

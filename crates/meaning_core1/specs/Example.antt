@@ -1,14 +1,14 @@
 -- The definitions on one small module: its export f extends the lowest 8 bits of its argument with their sign.
-use Rattle.std.specs.Prelude.{◌≡◌, ℕ, List, [], ◌∷◌}
+use Rattle.std.specs.Prelude.{◌≡◌, ℕ, List, [], ◌∷◌, None}
 use Rattle.num_core.specs.declared.operators.Width.TheVariants.{W32}
 use Rattle.num_core.specs.declared.operators.Bin.TheVariants.{Shl, ShrS}
 use Rattle.wasm_ast.specs.Trace.{events as events_of}
-use Rattle.meaning_core1.specs.declared.module.ty.Ty1.TheVariants as types
-use Rattle.meaning_core1.specs.declared.module.code.Op1.TheVariants.{I32Const, Binary}
-use Rattle.meaning_core1.specs.declared.module.code.Instr1.{Instr1}
-use Rattle.meaning_core1.specs.declared.module.code.Instr1.TheVariants.{LocalGet, Pure}
-use Rattle.meaning_core1.specs.declared.module.parts.ExportDesc1.TheVariants.{Func}
-use Rattle.meaning_core1.specs.declared.module.parts.Module1.{Module1}
+use Rattle.core1_ast.specs.declared.module.ty.Ty1.TheVariants as types
+use Rattle.core1_ast.specs.declared.module.op.Op1.TheVariants.{I32Const, Binary}
+use Rattle.core1_ast.specs.declared.module.code.Instr1.{Instr1}
+use Rattle.core1_ast.specs.declared.module.code.Instr1.TheVariants.{LocalGet, Pure}
+use Rattle.core1_ast.specs.declared.module.parts.ExportDesc1.TheVariants.{Func}
+use Rattle.core1_ast.specs.declared.module.parts.Module1.{Module1}
 use Rattle.wasm_ast.specs.declared.script.items.Item.{Item}
 use Rattle.wasm_ast.specs.declared.script.items.Item.TheVariants.{Call}
 use Rattle.wasm_ast.specs.declared.script.items.Script.{Script}
@@ -18,7 +18,7 @@ use Rattle.wasm_ast.specs.declared.script.value.Value.{Value}
 use Rattle.wasm_ast.specs.declared.script.value.Value.TheVariants as values
 use Rattle.meaning_core1.specs.Modules.{trace1, depth1}
 use Rattle.meaning_core1.specs.Fitting.{Fits1}
-use Rattle.meaning_core1.specs.Typing.{Typed1}
+use Rattle.core1_ast.specs.Typing.{Typed1}
 
 -- the name f
 abbrev pub name_f : List ℕ
@@ -35,9 +35,16 @@ right_24 code = Pure (I32Const 24) ∷ (Pure (Binary W32 ShrS) ∷ code)
 abbrev pub shift_module : Module1
 shift_module = record {
   types = record { params = types.I32 ∷ []; results = types.I32 ∷ [] } ∷ [];
+  imports = [];
   funcs = 0 ∷ [];
+  tables = [];
+  memories = [];
+  globals = [];
   exports = record { name = name_f; desc = Func 0 } ∷ [];
+  start = None;
+  elems = [];
   codes = record { locals = []; code = LocalGet 0 ∷ left_24 (right_24 []) } ∷ [];
+  datas = [];
 }
 
 -- one value as a list of arguments or results

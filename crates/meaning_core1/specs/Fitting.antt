@@ -1,11 +1,11 @@
 -- That a script fits a module of 1.0: it asks for nothing that the module does not offer, with values of the right types.
 use Rattle.std.specs.Prelude.{◌≡◌, ℕ, ◌<◌, ◌^◌, List, [], ◌∷◌, Some}
 use Rattle.std.specs.List.{AllByRecursion}
-use Rattle.meaning_core1.specs.declared.module.ty.Ty1.{Ty1}
-use Rattle.meaning_core1.specs.declared.module.ty.Ty1.TheVariants as types
-use Rattle.meaning_core1.specs.declared.module.ty.FuncType1.{FuncType1}
-use Rattle.meaning_core1.specs.declared.module.parts.Module1.{Module1}
-use Rattle.meaning_core1.specs.declared.module.parts.ExportDesc1.TheVariants.{Func}
+use Rattle.core1_ast.specs.declared.module.ty.Ty1.{Ty1}
+use Rattle.core1_ast.specs.declared.module.ty.Ty1.TheVariants as types
+use Rattle.core1_ast.specs.declared.module.ty.FuncType1.{FuncType1}
+use Rattle.core1_ast.specs.declared.module.parts.Module1.{Module1}
+use Rattle.core1_ast.specs.declared.module.parts.ExportDesc1.TheVariants.{Func}
 use Rattle.wasm_ast.specs.declared.script.items.Item.{Item}
 use Rattle.wasm_ast.specs.declared.script.items.Item.TheVariants.{Call}
 use Rattle.wasm_ast.specs.declared.script.items.Script.{Script}
@@ -17,6 +17,7 @@ use Rattle.meaning_core1.specs.Modules.{export_named}
 -- the value has the type, and its number is one of the type's
 abbrev pub HasType1 : Value → Ty1 → Type 0
 HasType1 (values.I32 i) types.I32 = i < 2 ^ 32
+HasType1 (values.I32 i) _ = ⊥
 
 -- as many values as types, each of its type
 abbrev pub HaveTypes1 : List Value → List Ty1 → Type 0

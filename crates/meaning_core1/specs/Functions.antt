@@ -1,8 +1,8 @@
 -- Functions of a module of 1.0, and their calls ("Function Calls" of chapter 4).
 use Rattle.std.specs.Prelude.{ℕ, [], ◌++◌, ◌+◌, Option, Some, None, map, slice_get, take, length, reverse}
-use Rattle.meaning_core1.specs.declared.module.parts.Module1.{Module1}
-use Rattle.meaning_core1.specs.declared.module.ty.FuncType1.{FuncType1}
-use Rattle.meaning_core1.specs.declared.module.code.Body1.{Body1}
+use Rattle.core1_ast.specs.declared.module.parts.Module1.{Module1}
+use Rattle.core1_ast.specs.declared.module.ty.FuncType1.{FuncType1}
+use Rattle.core1_ast.specs.declared.module.code.Body1.{Body1}
 use Rattle.outcome_kit.specs.Outcome.{Done, bind, turn}
 use Rattle.outcome_kit.specs.Code.{Go, Leave}
 use Rattle.meaning_core1.specs.Values.{zero_of}
@@ -14,7 +14,7 @@ abbrev pub type_of_index : Module1 → Option ℕ → Option FuncType1
 type_of_index m None = None
 type_of_index m (Some t) = slice_get m.types t
 
--- the type of a function, by the index of the function
+-- the type of a function, by the index of the function; no function is imported as yet
 abbrev pub type_at1 : Module1 → ℕ → Option FuncType1
 type_at1 m x = type_of_index m (slice_get m.funcs x)
 

@@ -4,10 +4,10 @@ use Rattle.std.specs.Prelude.{ℕ, List, ◌∷◌, Option, Some, None, map}
 use Rattle.num_core.specs.Integers.{binary}
 use Rattle.num_core.specs.declared.operators.Width.{Width}
 use Rattle.num_core.specs.declared.operators.Width.TheVariants.{W32}
-use Rattle.meaning_core1.specs.declared.module.code.Op1.{Op1}
-use Rattle.meaning_core1.specs.declared.module.code.Op1.TheVariants.{I32Const, Binary}
-use Rattle.meaning_core1.specs.declared.module.code.Instr1.{Instr1}
-use Rattle.meaning_core1.specs.declared.module.code.Instr1.TheVariants.{LocalGet, Pure}
+use Rattle.core1_ast.specs.declared.module.op.Op1.{Op1}
+use Rattle.core1_ast.specs.declared.module.op.Op1.TheVariants.{I32Const, Binary}
+use Rattle.core1_ast.specs.declared.module.code.Instr1.{Instr1}
+use Rattle.core1_ast.specs.declared.module.code.Instr1.TheVariants.{LocalGet, Pure}
 use Rattle.wasm_ast.specs.declared.script.value.Value.{Value}
 use Rattle.outcome_kit.specs.Outcome.{Done}
 use Rattle.outcome_kit.specs.Code.{Go, Leave, run}
@@ -28,13 +28,17 @@ abbrev pub pure1 : Op1 → Conf1 → Res1
 -- t.const c
 pure1 (I32Const i) c = Go (pushed (const1 W32 i) c.stack c)
 -- t.binop: the second operand lies on the top
-pure1 (Binary w op) c = binop_result w (binary w op (top_int1 w (popped c.stack)) (top_int1 w c.stack)) c
+pure1 (Binary W32 op) c = binop_result W32 (binary W32 op (top_int1 W32 (popped c.stack)) (top_int1 W32 c.stack)) c
+-- an instruction that is not defined yet traps
+pure1 _ c = Leave Trap c
 
 -- an instruction that has no body and calls nothing
 abbrev pub simple : Instr1 → Conf1 → Res1
 simple (Pure op) c = pure1 op c
 -- "Variable Instructions": local.get x
 simple (LocalGet x) c = Go (pushed (local_at1 c.locals x) c.stack c)
+-- an instruction that is not defined yet traps
+simple _ c = Leave Trap c
 
 -- an instruction
 abbrev pub exec1 : Instr1 → Sem1

@@ -2,7 +2,7 @@
 use Rattle.std.specs.Prelude.{◌≡◌, ℕ, ◌+◌, ◌≤◌, List, ◌++◌, Bool, Contains}
 use Rattle.wasm_ast.specs.Trace.{Begins, Shows, seen, answers, captured}
 use Rattle.wasm_ast.specs.Script.{regrow}
-use Rattle.meaning_core1.specs.declared.module.parts.Module1.{Module1}
+use Rattle.core1_ast.specs.declared.module.parts.Module1.{Module1}
 use Rattle.wasm_ast.specs.declared.script.items.Script.{Script}
 use Rattle.wasm_ast.specs.declared.script.event.Event.TheVariants.{Full}
 use Rattle.meaning_core1.specs.Modules.{trace1, depth1}

@@ -4,6 +4,5 @@ pub mod Instructions
 pub mod Functions
 pub mod Modules
 pub mod Fitting
-pub mod Typing
 pub mod Laws
 pub mod Example

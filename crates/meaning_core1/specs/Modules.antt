@@ -1,10 +1,10 @@
 -- Instantiation in 1.0, and what a host does with an instance ("Modules" of chapter 4).
 use Rattle.std.specs.Prelude.{ℕ, List, [], ◌∷◌, ◌+◌, Option, Some, None, cond, bytes_eq, reverse}
 use Rattle.wasm_ast.specs.Trace.{Mark}
-use Rattle.meaning_core1.specs.declared.module.parts.Module1.{Module1}
-use Rattle.meaning_core1.specs.declared.module.parts.Export1.{Export1}
-use Rattle.meaning_core1.specs.declared.module.parts.ExportDesc1.{ExportDesc1}
-use Rattle.meaning_core1.specs.declared.module.parts.ExportDesc1.TheVariants.{Func}
+use Rattle.core1_ast.specs.declared.module.parts.Module1.{Module1}
+use Rattle.core1_ast.specs.declared.module.parts.Export1.{Export1}
+use Rattle.core1_ast.specs.declared.module.parts.ExportDesc1.{ExportDesc1}
+use Rattle.core1_ast.specs.declared.module.parts.ExportDesc1.TheVariants.{Func}
 use Rattle.wasm_ast.specs.declared.script.items.Item.{Item}
 use Rattle.wasm_ast.specs.declared.script.items.Item.TheVariants.{Call}
 use Rattle.wasm_ast.specs.declared.script.items.Script.{Script}
@@ -28,10 +28,11 @@ globals_of1 m s = []
 abbrev pub with_args1 : List Value → State1 → Conf1
 with_args1 args s = record { stack = reverse args; locals = []; state = s }
 
--- "Invocation": a call from the host; without such a function a trap
+-- "Invocation": a call from the host; without a function of the name a trap
 abbrev pub invoke1 : Module1 → Option ExportDesc1 → List Value → ℕ → State1 → Out State1 Res1
 invoke1 m None args n s = Done 0 (Leave Trap (with_args1 args s))
 invoke1 m (Some (Func x)) args n s = call1 m x 0 n (with_args1 args s)
+invoke1 m (Some _) args n s = Done 0 (Leave Trap (with_args1 args s))
 
 -- what the host sees of the call of an item
 abbrev pub shown : Module1 → ℕ → Res1 → State1

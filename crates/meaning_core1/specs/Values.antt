@@ -1,26 +1,22 @@
 -- Values and the operand stack of 1.0 ("Runtime Structure" of chapter 4, "Execution").
 use Rattle.std.specs.Prelude.{ℕ, List, [], ◌∷◌, slice_index_or}
 use Rattle.num_core.specs.declared.operators.Width.{Width}
-use Rattle.num_core.specs.declared.operators.Width.TheVariants.{W32}
-use Rattle.meaning_core1.specs.declared.module.ty.Ty1.{Ty1}
-use Rattle.meaning_core1.specs.declared.module.ty.Ty1.TheVariants as types
+use Rattle.core1_ast.specs.declared.module.ty.Ty1.{Ty1}
+use Rattle.core1_ast.specs.declared.module.ty.Ty1.TheVariants as types
+use Rattle.core1_ast.specs.Operands.{int_type1}
 use Rattle.wasm_ast.specs.declared.script.value.Value.{Value}
 use Rattle.wasm_ast.specs.declared.script.value.Value.TheVariants as values
 
--- what a declared local begins with: t.const 0
+-- What a declared local begins with: t.const 0. A value is an i32 as yet, and so stands for the other types too.
 abbrev pub zero_of : Ty1 → Value
-zero_of types.I32 = values.I32 0
+zero_of _ = values.I32 0
 
--- the type of the integers of a width
-abbrev pub int_type1 : Width → Ty1
-int_type1 W32 = types.I32
-
--- the value t.const i, and the integer of such a value
+-- the value t.const i, and the integer of such a value; an instruction on other integers than i32 traps as yet
 abbrev pub const1 : Width → ℕ → Value
-const1 W32 i = values.I32 i
+const1 w i = values.I32 i
 
 abbrev pub int_of1 : Width → Value → ℕ
-int_of1 W32 (values.I32 i) = i
+int_of1 w (values.I32 i) = i
 
 -- The top of a stack, which is a list with its top first. Code that is typed never finds nothing there; without
 -- a value there the top is the zero of the type that is wanted.

@@ -8,7 +8,7 @@ use Rattle.wasm_ast.specs.declared.module.parts.Module.{Module}
 use Rattle.wasm_ast.specs.declared.module.parts.ExportDesc.{ExportDesc}
 use Rattle.wasm_ast.specs.declared.module.parts.ExportDesc.TheVariants.{Func}
 use Rattle.wasm_ast.specs.declared.module.code.Instr.{Instr}
-use Rattle.wasm_ast.specs.declared.module.code.Instr.TheVariants.{LocalGet, Pure}
+use Rattle.wasm_ast.specs.declared.module.code.Instr.TheVariants.{Pure}
 use Rattle.wasm_ast.specs.declared.script.items.Item.{Item}
 use Rattle.wasm_ast.specs.declared.script.items.Item.TheVariants.{Call}
 use Rattle.wasm_ast.specs.declared.script.items.Script.{Script}
@@ -72,8 +72,8 @@ with_operands_stays c None = refl
 with_operands_stays c (Some operands) = refl
 
 plain_stays : (i : Instr) (c : Conf) → state_of (plain i c) ≡ c.state
-plain_stays (LocalGet x) c = refl
 plain_stays (Pure op) c = with_operands_stays c (pure op c.operands)
+plain_stays _ c = refl
 
 exec_grows : (i : Instr) (open_calls : ℕ) → GrowsFrom order in_state (exec i open_calls)
 unfolding order
@@ -107,8 +107,8 @@ call_grows : (m : Module) (x open_calls : ℕ) → GrowsFrom order in_state (cal
 call_grows m x open_calls = record { from = λ c. grows_turn order state_of c.state (λ n. enter (func_at m x) open_calls n c) ((enter_grows (func_at m x) open_calls).from c) }
 
 invoke_grows : (m : Module) (o : Option ExportDesc) (args : List Value) (s : State) → Grows order state_of s (λ n. invoke m o args n s)
-invoke_grows m None args s = grows_done order state_of s 0 (Leave Trap (with_args args s)) (order.stays s)
 invoke_grows m (Some (Func x)) args s = (call_grows m x 0).from (with_args args s)
+invoke_grows m _ args s = grows_done order state_of s 0 (Leave Trap (with_args args s)) (order.stays s)
 
 abbrev itself : State → State
 itself s = s

@@ -1,9 +1,9 @@
 -- The definitions on one small module: its export f extends the lowest 8 bits of its argument with their sign.
-use Rattle.std.specs.Prelude.{◌≡◌, ℕ, List, [], ◌∷◌}
+use Rattle.std.specs.Prelude.{◌≡◌, ℕ, List, [], ◌∷◌, None}
 use Rattle.num_core.specs.declared.operators.Conv.TheVariants.{S8of32}
 use Rattle.wasm_ast.specs.Trace.{events as events_of}
 use Rattle.wasm_ast.specs.declared.module.ty.Ty.TheVariants as types
-use Rattle.wasm_ast.specs.declared.module.code.Op.TheVariants.{Convert}
+use Rattle.wasm_ast.specs.declared.module.op.Op.TheVariants.{Convert}
 use Rattle.wasm_ast.specs.declared.module.code.Instr.TheVariants.{LocalGet, Pure}
 use Rattle.wasm_ast.specs.declared.module.parts.ExportDesc.TheVariants.{Func}
 use Rattle.wasm_ast.specs.declared.module.parts.Module.{Module}
@@ -25,9 +25,18 @@ name_f = 102 ∷ []
 abbrev pub byte_module : Module
 byte_module = record {
   types = record { params = types.I32 ∷ []; results = types.I32 ∷ [] } ∷ [];
+  imports = [];
   funcs = 0 ∷ [];
+  tables = [];
+  memories = [];
+  tags = [];
+  globals = [];
   exports = record { name = name_f; desc = Func 0 } ∷ [];
+  start = None;
+  elems = [];
+  data_count = None;
   codes = record { locals = []; code = LocalGet 0 ∷ (Pure (Convert S8of32) ∷ []) } ∷ [];
+  datas = [];
 }
 
 -- one value as a list of arguments or results

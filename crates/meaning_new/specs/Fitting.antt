@@ -14,9 +14,10 @@ use Rattle.wasm_ast.specs.declared.script.value.Value.TheVariants as values
 use Rattle.meaning_new.specs.Functions.{type_at}
 use Rattle.meaning_new.specs.Modules as modules
 
--- the value has the type, and its number is one of the type's
+-- the value has the type, and its number is one of the type's. Values of other types are not built yet
 abbrev pub HasType : Value → Ty → Type 0
 HasType (values.I32 i) types.I32 = i < 2 ^ 32
+HasType v _ = ⊥
 
 -- as many values as types, each of its type
 abbrev pub HaveTypes : List Value → List Ty → Type 0

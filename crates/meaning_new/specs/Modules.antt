@@ -1,5 +1,5 @@
 -- Instantiation, and what a host does with an instance ("Modules" of chapter 4: "Instantiation", "Invocation").
-use Rattle.std.specs.Prelude.{ℕ, List, [], ◌∷◌, ◌+◌, Option, Some, None, option_map, find, bytes_eq, reverse}
+use Rattle.std.specs.Prelude.{ℕ, List, [], ◌∷◌, ◌+◌, Option, Some, option_map, find, bytes_eq, reverse}
 use Rattle.wasm_ast.specs.Trace.{Mark}
 use Rattle.wasm_ast.specs.declared.module.parts.Module.{Module}
 use Rattle.wasm_ast.specs.declared.module.parts.ExportDesc.{ExportDesc}
@@ -18,7 +18,7 @@ use Rattle.meaning_new.specs.Functions.{call}
 abbrev pub exported : Module → List ℕ → Option ExportDesc
 exported m name = option_map (λ e. e.desc) (find (λ e. bytes_eq e.name name) m.exports)
 
--- the values of the exported globals, in export order; modules have no globals yet
+-- the values of the exported globals, in export order; globals are not built yet
 abbrev pub globals_of : Module → State → List Value
 globals_of m s = []
 
@@ -28,8 +28,8 @@ with_args args s = record { operands = reverse args; locals = []; state = s }
 
 -- "Invocation": a call from the host; without such a function a trap
 abbrev pub invoke : Module → Option ExportDesc → List Value → ℕ → State → Out State Res
-invoke m None args n s = Done 0 (Leave Trap (with_args args s))
 invoke m (Some (Func x)) args n s = call m x 0 n (with_args args s)
+invoke m _ args n s = Done 0 (Leave Trap (with_args args s))
 
 -- what the host sees of the call of an item
 abbrev pub answered : Module → ℕ → Res → State

@@ -1,4 +1,5 @@
-// The integer operators of both versions of WebAssembly, and what they give.
+// The integer operators of both versions of WebAssembly, what they give, and the lists that all crates share.
 #![tactic(auto)]
 
+pub mod lists;
 pub mod operators;

@@ -6,24 +6,37 @@ use Rattle.std.specs.declared.alloc.AllocError.{AllocError}
 use Rattle.std.proofs.lemmas.List.{append_cancel_right}
 use Rattle.std.proofs.Math.ListN.{drop_of_length-le}
 use Rattle.std.proofs.Math.Seq.{drop-cons}
+use Rattle.num_core.specs.Integers.{width_from, width_to}
+use Rattle.num_core.specs.declared.operators.Width.{Width}
+use Rattle.num_core.specs.declared.operators.Width.TheVariants.{W32}
 use Rattle.wasm_ast.specs.declared.module.ty.Ty.{Ty}
 use Rattle.wasm_ast.specs.declared.module.ty.Ty.TheVariants.{I32}
 use Rattle.wasm_ast.specs.declared.module.code.Instr.{Instr}
 use Rattle.wasm_ast.specs.declared.module.code.Instr.TheVariants.{LocalGet, Pure}
-use Rattle.wasm_ast.specs.declared.module.code.Op.TheVariants.{I32Const, Binary, Convert}
-use Rattle.read_new.specs.Typing.{Context, Typed, i32_const, binary, convert, local_get, TypedCode, none, more, Steps, integer, source, target}
+use Rattle.wasm_ast.specs.declared.module.op.Op.TheVariants.{I32Const, Binary, Convert}
+use Rattle.read_new.specs.Typing.{Context, Typed, i32_const, binary, convert, local_get, TypedCode, none, more, Steps}
+
+-- the operands and the results of an operator on integers of these widths
+abbrev pub binary_arrow : Width → Option (List Ty × List Ty)
+binary_arrow W32 = Some (I32 ∷ (I32 ∷ []), I32 ∷ [])
+binary_arrow _ = None
+
+abbrev pub convert_arrow : Width → Width → Option (List Ty × List Ty)
+convert_arrow W32 W32 = Some (I32 ∷ [], I32 ∷ [])
+convert_arrow _ _ = None
 
 -- the operands and the results of an instruction
 abbrev pub arrow : Context → Instr → Option (List Ty × List Ty)
 arrow c (LocalGet x) = option_map (λ t. ([], t ∷ [])) (slice_get c.locals x)
 arrow c (Pure (I32Const n)) = Some ([], I32 ∷ [])
-arrow c (Pure (Binary w o)) = Some (integer w ∷ (integer w ∷ []), integer w ∷ [])
-arrow c (Pure (Convert o)) = Some (source o ∷ [], target o ∷ [])
+arrow c (Pure (Binary w o)) = binary_arrow w
+arrow c (Pure (Convert o)) = convert_arrow (width_from o) (width_to o)
+arrow c _ = None
 
 pub typed_arrow : {c : Context} {i : Instr} {takes gives : List Ty} → Typed c i takes gives → arrow c i ≡ Some (takes, gives)
 typed_arrow (i32_const c i n e) = ap (arrow c) e
-typed_arrow (binary c i w o e) = ap (arrow c) e
-typed_arrow (convert c i o e) = ap (arrow c) e
+typed_arrow (binary c i o e) = ap (arrow c) e
+typed_arrow (convert c i o e from to) = ap (arrow c) e ∙ ap (λ w. convert_arrow w (width_to o)) from ∙ ap (convert_arrow W32) to
 typed_arrow (local_get c i x t e h) = ap (arrow c) e ∙ ap (option_map (λ (u : Ty). ([], u ∷ []))) h
 
 -- what a step does, where the arrow is known
@@ -67,11 +80,11 @@ ended : {c : Context} {before after : List Ty} → TypedCode c [] before after �
 ended (none c s) = refl
 
 -- what is left of the code is typed exactly where what is left after a step is
-pub step_typed : (c : Context) (code : List Instr) (k : ℕ) (d : Instr) {before between after : List Ty} → k < length code → Steps c (get_or code k d) before between → TypedCode c (drop k code) before after ↔ TypedCode c (drop (k + 1) code) between after
-step_typed c code k d within s = rw (add-one, drop-cons code k d) (rest_typed s, more_typed s)
+pub step_typed : (c : Context) (code : List Instr) (k : ℕ) (i : Instr) {before between after : List Ty} → k < length code → i ≡ get_or code k i → Steps c i before between → TypedCode c (drop k code) before after ↔ TypedCode c (drop (k + 1) code) between after
+step_typed c code k i within is s = rw (add-one, drop-cons code k i, ← is) (rest_typed s, more_typed s)
 
-pub stuck_typed : (c : Context) (code : List Instr) (k : ℕ) (d : Instr) {before after : List Ty} → k < length code → ((between : List Ty) → Steps c (get_or code k d) before between → ⊥) → TypedCode c (drop k code) before after → ⊥
-stuck_typed c code k d within nowhere = rw (drop-cons code k d) (not_typed nowhere)
+pub stuck_typed : (c : Context) (code : List Instr) (k : ℕ) (i : Instr) {before after : List Ty} → k < length code → i ≡ get_or code k i → ((between : List Ty) → Steps c i before between → ⊥) → TypedCode c (drop k code) before after → ⊥
+stuck_typed c code k i within is nowhere = rw (drop-cons code k i, ← is) (not_typed nowhere)
 
 -- the end of the code
 pub end_typed : (c : Context) (code : List Instr) (k : ℕ) {before after : List Ty} → length code ≤ k → TypedCode c (drop k code) before after ↔ (before ≡ after)

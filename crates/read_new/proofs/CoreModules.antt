@@ -23,6 +23,7 @@ use Rattle.read_new.specs.Answers.{Answers, Refusal, core_parts}
 use Rattle.grammar_kit.specs.Sequences.{whole, sized}
 use Rattle.read_new.specs.Parts.{type_section, func_section, export_section, code_section}
 use Rattle.read_new.specs.Bodies.{declared_body, body_of}
+use Rattle.read_new.specs.Bare.{IsBare}
 use Rattle.read_new.specs.Core.{IsCore}
 use Rattle.read_new.specs.Spells.{Content, SpellsCore}
 use Rattle.grammar_kit.proofs.Sequences.{exact_sized, spells_read, none_read, same_read}
@@ -80,6 +81,7 @@ module _ (b types funcs exports codes : List ℕ) (frame : Frame Three b (core_p
           spelled = cut.2;
           codes = h.codes_are;
           counts = ap length h.core.funcs ∙ sym (ap length h.core.bodies);
+          bare = h.core.bare;
         };
         ids = refl;
         groups = h.no_groups;
@@ -177,11 +179,11 @@ module _ (b types funcs exports codes : List ℕ) (frame : Frame Three b (core_p
     })
 
     -- and where it is none
-    pub not_read : (IsCore m → ⊥) → (o : Module) → SpellsCore b o → ⊥
-    not_read none o h =
+    pub not_read : IsBare m → (IsCore m → ⊥) → (o : Module) → SpellsCore b o → ⊥
+    not_read bare none o h =
         let t = texts_of b types funcs exports codes frame o h in
         let same = same_read body_section exact_body_section codes t.bodies bodies bodies_read t.bodies_text in
-        let module_same = same_fields o m
+        let module_same = same_fields o m t.core.bare bare
         (same_read type_section exact_type_section types o.types m.types types_read t.types_text)
         (same_read func_section exact_func_section funcs o.funcs m.funcs funcs_read t.funcs_text)
         (same_read export_section exact_export_section exports o.exports m.exports exports_read t.exports_text)

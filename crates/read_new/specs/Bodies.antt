@@ -5,7 +5,7 @@ use Rattle.num_core.specs.declared.operators.Bin.TheVariants.{Add}
 use Rattle.num_core.specs.declared.operators.Conv.TheVariants.{S8of32, S16of32}
 use Rattle.wasm_ast.specs.declared.module.code.Instr.{Instr}
 use Rattle.wasm_ast.specs.declared.module.code.Instr.TheVariants.{LocalGet, Pure}
-use Rattle.wasm_ast.specs.declared.module.code.Op.TheVariants.{I32Const, Binary, Convert}
+use Rattle.wasm_ast.specs.declared.module.op.Op.TheVariants.{I32Const, Binary, Convert}
 use Rattle.wasm_ast.specs.declared.module.code.Body.{Body}
 use Rattle.grammar_kit.specs.Form.{Form, never, always, byte, when, ◌>>=◌, vector}
 use Rattle.read_new.specs.declared.parts.bodies.LocalGroup.{LocalGroup}

@@ -5,6 +5,7 @@ use Rattle.wasm_ast.specs.declared.module.ty.FuncType.{FuncType}
 use Rattle.wasm_ast.specs.declared.module.code.Instr.{Instr}
 use Rattle.wasm_ast.specs.declared.module.parts.ExportDesc.TheVariants.{Func}
 use Rattle.wasm_ast.specs.declared.module.parts.Module.{Module}
+use Rattle.read_new.specs.Bare.{IsBare}
 use Rattle.read_new.specs.Typing.{TypedCode}
 
 -- the type of the function
@@ -15,7 +16,8 @@ core_type = record { params = I32 ∷ []; results = I32 ∷ [] }
 abbrev pub IsReserved : List ℕ → Type 0
 IsReserved name = (rest : List ℕ) × (name ≡ codes "lower." ++ rest)
 
--- one function of the core type, exported under a name that is not reserved, with no declared locals and typed code
+-- one function of the core type, exported under a name that is not reserved, with no declared locals and typed code,
+-- and nothing else
 pub record IsCore (m : Module) : Type 0 where
   pub types : m.types ≡ core_type ∷ []
   pub funcs : m.funcs ≡ 0 ∷ []
@@ -25,3 +27,4 @@ pub record IsCore (m : Module) : Type 0 where
   pub code : List Instr
   pub bodies : m.codes ≡ (record { locals = []; code = code }) ∷ []
   pub typed : TypedCode (record { locals = I32 ∷ [] }) code [] (I32 ∷ [])
+  pub bare : IsBare m

@@ -1,4 +1,5 @@
 pub mod Answers
+pub mod Bare
 pub mod Bodies
 pub mod Core
 pub mod Faults

@@ -1,4 +1,4 @@
--- The payloads of sections: chapter 5 of the standard, "Modules". A form has the cases that modules as data have.
+-- The payloads of sections: chapter 5 of the standard, "Modules". A form has the cases that core modules need.
 use Rattle.std.specs.Prelude.{ℕ, List, ◌==◌}
 use Rattle.wasm_ast.specs.declared.module.ty.Ty.{Ty}
 use Rattle.wasm_ast.specs.declared.module.ty.Ty.TheVariants.{I32}

@@ -10,6 +10,7 @@ use Rattle.wasm_frame.specs.Name.{IsCustom}
 use Rattle.read_new.specs.declared.parts.bodies.DeclaredBody.{DeclaredBody}
 use Rattle.read_new.specs.Parts.{type_section, func_section, export_section, code_section}
 use Rattle.read_new.specs.Bodies.{declared_body, body_of}
+use Rattle.read_new.specs.Bare.{IsBare}
 use Rattle.read_new.specs.Core.{IsCore}
 
 -- the payload of the section of an id, if there is one
@@ -21,7 +22,7 @@ payload_of id (s ∷ more) = if s.id == id then Some s.payload else payload_of i
 abbrev pub Content : {X : Type 0} → ℕ → Form (List X) → List Part → List X → Type 0
 Content id f parts entries = MatchOption (payload_of id parts) (entries ≡ []) (λ payload. f.text payload entries)
 
--- a section that a module as data has a field for
+-- a section that is read
 abbrev pub HasField : Part → Type 0
 HasField s = IsTrue (list_any (λ id. s.id == id) (1 ∷ (3 ∷ (7 ∷ (10 ∷ [])))))
 
@@ -36,7 +37,8 @@ Each R [] (y ∷ ys) = ⊥
 Each R (x ∷ xs) [] = ⊥
 Each R (x ∷ xs) (y ∷ ys) = R x y × Each R xs ys
 
--- the bytes spell the module. Custom sections add nothing to it, and each function has a body
+-- the bytes spell the module. Custom sections add nothing to it, each function has a body, and of the sections that
+-- are not read there is none
 pub record Spells (b : List ℕ) (m : Module) : Type 0 where
   pub parts : List Part
   pub frame : Frame Three b parts Whole
@@ -50,6 +52,7 @@ pub record Spells (b : List ℕ) (m : Module) : Type 0 where
   pub spelled : Each declared_body.text texts bodies
   pub codes : m.codes ≡ map body_of bodies
   pub counts : length m.funcs ≡ length m.codes
+  pub bare : IsBare m
 
 -- the bytes spell a core module, by four sections alone and with no group of locals
 pub record SpellsCore (b : List ℕ) (m : Module) : Type 0 where

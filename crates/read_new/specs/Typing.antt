@@ -1,43 +1,29 @@
 -- Typing of code: chapter 3 of the standard, "Validation". A list of operand types has the top of the stack last.
 use Rattle.std.specs.Prelude.{◌≡◌, ℕ, List, [], ◌∷◌, ◌++◌, Some, slice_get}
-use Rattle.num_core.specs.declared.operators.Width.{Width}
+use Rattle.num_core.specs.Integers.{width_from, width_to}
 use Rattle.num_core.specs.declared.operators.Width.TheVariants.{W32}
 use Rattle.num_core.specs.declared.operators.Bin.{Bin}
 use Rattle.num_core.specs.declared.operators.Conv.{Conv}
-use Rattle.num_core.specs.declared.operators.Conv.TheVariants.{S8of32, S16of32}
 use Rattle.wasm_ast.specs.declared.module.ty.Ty.{Ty}
 use Rattle.wasm_ast.specs.declared.module.ty.Ty.TheVariants.{I32}
 use Rattle.wasm_ast.specs.declared.module.code.Instr.{Instr}
 use Rattle.wasm_ast.specs.declared.module.code.Instr.TheVariants.{LocalGet, Pure}
-use Rattle.wasm_ast.specs.declared.module.code.Op.TheVariants.{I32Const, Binary, Convert}
+use Rattle.wasm_ast.specs.declared.module.op.Op.TheVariants.{I32Const, Binary, Convert}
 
 -- what code may name: "Contexts"
 pub record Context : Type 0 where
   -- the types of the locals of the function, its parameters first
   pub locals : List Ty
 
--- the type of the integers of a width
-abbrev pub integer : Width → Ty
-integer W32 = I32
-
--- the type that a conversion takes
-abbrev pub source : Conv → Ty
-source S8of32 = I32
-source S16of32 = I32
-
--- the type that a conversion gives
-abbrev pub target : Conv → Ty
-target S8of32 = I32
-target S16of32 = I32
-
--- in this context the instruction takes these operands from the top of the stack, and puts these results there
+-- in this context the instruction takes these operands from the top of the stack, and puts these results there.
+-- Instructions that no core module has are given no rule yet
 pub data Typed : Context → Instr → List Ty → List Ty → Type 0 where
   -- "Numeric Instructions", t.const c : [] -> [t]
   i32_const : (c : Context) (i : Instr) (n : ℕ) → i ≡ Pure (I32Const n) → Typed c i [] (I32 ∷ [])
-  -- "Numeric Instructions", t.binop : [t t] -> [t]
-  binary : (c : Context) (i : Instr) (w : Width) (o : Bin) → i ≡ Pure (Binary w o) → Typed c i (integer w ∷ (integer w ∷ [])) (integer w ∷ [])
-  -- "Numeric Instructions", t2.cvtop_t1 : [t1] -> [t2], and t.extendM_s : [t] -> [t]
-  convert : (c : Context) (i : Instr) (o : Conv) → i ≡ Pure (Convert o) → Typed c i (source o ∷ []) (target o ∷ [])
+  -- "Numeric Instructions", t.binop : [t t] -> [t], where t is i32
+  binary : (c : Context) (i : Instr) (o : Bin) → i ≡ Pure (Binary W32 o) → Typed c i (I32 ∷ (I32 ∷ [])) (I32 ∷ [])
+  -- "Numeric Instructions", t.extendM_s : [t] -> [t], where t is i32
+  convert : (c : Context) (i : Instr) (o : Conv) → i ≡ Pure (Convert o) → width_from o ≡ W32 → width_to o ≡ W32 → Typed c i (I32 ∷ []) (I32 ∷ [])
   -- "Variable Instructions", local.get x : [] -> [t], where local x has type t
   local_get : (c : Context) (i : Instr) (x : ℕ) (t : Ty) → i ≡ LocalGet x → slice_get c.locals x ≡ Some t → Typed c i [] (t ∷ [])
 

@@ -3,6 +3,7 @@
 ghost use Rattle.std.specs.Prelude.{◌≡◌, [], ◌∷◌, ◌↔◌, List, ℕ, IsTrue, IfOk};
 ghost use Rattle.wasm_ast.specs.declared.module.code.Instr.{Instr};
 ghost use Rattle.read_new.specs.Typing.{TypedCode};
+ghost use Rattle.read_new.specs.Bare.{IsBare};
 ghost use Rattle.read_new.specs.Core.{core_type, IsReserved, IsCore};
 
 use crate::typing::is_typed;
@@ -16,11 +17,27 @@ pub fn is_core(alloc: Global, m: &Module) -> Result<bool, AllocError>
     if has_core_type(m.types.as_slice())
         && m.funcs.as_slice() == [0].as_slice()
         && has_core_export(m.exports.as_slice())
+        && is_bare(m)
     {
         has_core_body(alloc, m.codes.as_slice())
     } else {
         Ok(false)
     }
+}
+
+/// Whether a module has nothing but types, functions, exports and code.
+fn is_bare(m: &Module) -> bool
+    ensures { IsTrue result ↔ IsBare m.now }
+{
+    m.imports.is_empty()
+        && m.tables.is_empty()
+        && m.memories.is_empty()
+        && m.tags.is_empty()
+        && m.globals.is_empty()
+        && m.start.is_none()
+        && m.elems.is_empty()
+        && m.data_count.is_none()
+        && m.datas.is_empty()
 }
 
 /// Whether the one type takes an i32 to an i32.

@@ -46,9 +46,18 @@ pub fn read(alloc: Global, b: &[u8]) -> Result<Module, ReadFault>
     let codes = core_codes(alloc, bodies)?;
     let m = Module {
         types,
+        imports: Items::new(alloc),
         funcs,
+        tables: Items::new(alloc),
+        memories: Items::new(alloc),
+        tags: Items::new(alloc),
+        globals: Items::new(alloc),
         exports,
+        start: None,
+        elems: Items::new(alloc),
+        data_count: None,
         codes,
+        datas: Items::new(alloc),
     };
     if is_core(alloc, &m)? {
         Ok(m)

@@ -2,7 +2,9 @@
 
 ghost use Rattle.std.specs.Prelude.{◌≡◌, List, [], ◌++◌, ◌↔◌, IsTrue, IfOk};
 ghost use Rattle.wasm_ast.specs.declared.module.ty.Ty.{Ty};
-ghost use Rattle.read_new.specs.Typing.{Context, TypedCode, Steps, integer, source, target};
+ghost use Rattle.num_core.specs.Integers.{width_from, width_to};
+ghost use Rattle.num_core.specs.declared.operators.Width.TheVariants.{W32};
+ghost use Rattle.read_new.specs.Typing.{Context, TypedCode, Steps};
 
 use num_core::operators::{Conv, Width};
 use sqlite_items::at;
@@ -21,7 +23,7 @@ pub fn is_typed(
 {
     let mut operands = Vec::new(alloc);
     for instr in code {
-        if !step(locals, *instr, &mut operands)? {
+        if !step(locals, instr, &mut operands)? {
             return Ok(false);
         }
     }
@@ -30,16 +32,17 @@ pub fn is_typed(
 
 /// Takes the operands of an instruction from the top of the stack, and puts its results there. False
 /// where the instruction is not typed or does not find its operands.
-fn step(locals: &[Ty], instr: Instr, operands: &mut Vec<Ty>) -> Result<bool, AllocError>
-    ensures yes { IfOk result (λ yes. IsTrue yes → Steps (record { locals = locals.now }) instr operands.old.items operands.new.items) }
-    ensures only { IfOk result (λ yes. (after : List Ty) → Steps (record { locals = locals.now }) instr operands.old.items after → IsTrue yes) }
+fn step(locals: &[Ty], instr: &Instr, operands: &mut Vec<Ty>) -> Result<bool, AllocError>
+    ensures yes { IfOk result (λ yes. IsTrue yes → Steps (record { locals = locals.now }) instr.now operands.old.items operands.new.items) }
+    ensures only { IfOk result (λ yes. (after : List Ty) → Steps (record { locals = locals.now }) instr.now operands.old.items after → IsTrue yes) }
 {
     match instr {
-        Instr::LocalGet(index) => match at(locals, index as usize) {
+        Instr::LocalGet(index) => match at(locals, *index as usize) {
             Some(ty) => replace(operands, &[], &[*ty]),
             None => Ok(false),
         },
-        Instr::Pure(op) => step_pure(op, operands),
+        Instr::Pure(op) => step_pure(*op, operands),
+        _ => Ok(false),
     }
 }
 
@@ -50,13 +53,14 @@ fn step_pure(op: Op, operands: &mut Vec<Ty>) -> Result<bool, AllocError>
 {
     match op {
         Op::I32Const(_) => replace(operands, &[], &[Ty::I32]),
-        Op::Binary(width, _) => {
-            let ty = integer(width);
-            replace(operands, &[ty, ty], &[ty])
+        Op::Binary(width, _) => match width {
+            Width::W32 => replace(operands, &[Ty::I32, Ty::I32], &[Ty::I32]),
+            Width::W64 => Ok(false),
+        },
+        Op::Convert(conversion) if extends_i32(conversion) => {
+            replace(operands, &[Ty::I32], &[Ty::I32])
         }
-        Op::Convert(conversion) => {
-            replace(operands, &[source(conversion)], &[target(conversion)])
-        }
+        _ => Ok(false),
     }
 }
 
@@ -73,29 +77,13 @@ fn replace(operands: &mut Vec<Ty>, takes: &[Ty], gives: &[Ty]) -> Result<bool, A
     Ok(true)
 }
 
-/// The type of the integers of a width.
-fn integer(width: Width) -> Ty
-    ensures { result ≡ integer width }
-{
-    match width {
-        Width::W32 => Ty::I32,
-    }
-}
-
-/// The type that a conversion takes.
-fn source(conversion: Conv) -> Ty
-    ensures { result ≡ source conversion }
+/// Whether a conversion takes an i32 and gives an i32: a sign extension.
+fn extends_i32(conversion: Conv) -> bool
+    ensures { IsTrue result ↔ ((width_from conversion ≡ W32) × (width_to conversion ≡ W32)) }
 {
     match conversion {
-        Conv::S8of32 | Conv::S16of32 => Ty::I32,
-    }
-}
-
-/// The type that a conversion gives.
-fn target(conversion: Conv) -> Ty
-    ensures { result ≡ target conversion }
-{
-    match conversion {
-        Conv::S8of32 | Conv::S16of32 => Ty::I32,
+        Conv::S8of32 | Conv::S16of32 => true,
+        Conv::Wrap | Conv::Ext32S | Conv::Ext32U | Conv::S8of64 | Conv::S16of64 | Conv::S32of64 =>
+            false,
     }
 }

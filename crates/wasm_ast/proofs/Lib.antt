@@ -1,1 +1,6 @@
 pub mod Marks
+pub mod Bodies
+pub mod Flags
+pub mod Pairs
+pub mod Held
+pub mod Used

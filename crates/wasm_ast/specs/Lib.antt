@@ -1,2 +1,13 @@
 pub mod Trace
 pub mod Script
+pub mod Occurrence
+pub mod LateLanes
+pub mod Features
+pub mod Spaces
+pub mod Places
+pub mod Types
+pub mod Flattening
+pub mod Fold
+pub mod Kept
+pub mod Marking
+pub mod Has

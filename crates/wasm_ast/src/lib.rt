@@ -1,6 +1,11 @@
 // Modules of WebAssembly 3.0 as data, and the scripts and events that a host and a module share.
 #![tactic(auto)]
 
+pub mod features;
+pub mod folding;
+mod kept;
 pub mod lists;
 pub mod module;
+pub mod occurrence;
 pub mod script;
+pub mod spaces;

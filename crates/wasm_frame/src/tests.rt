@@ -1,8 +1,8 @@
 use crate::numbers::*;
 use crate::sections::{Version, sections};
+use num_core::lists::Bytes;
 use std::alloc::{AllocError, Global};
 use std::test::Fail;
-use wasm_ast::lists::Bytes;
 
 #[test]
 fn unsigned_spellings(rt: HostRuntime) {

@@ -9,9 +9,9 @@ ghost use Rattle.lower_tool.specs.Memory.{IsNamedOnce, content_of, left_of, crea
 use super::pairs::{append, copy_from, empty_file, place_of};
 use super::{FileFault, Files, fault};
 use crate::calls::Calls;
+use num_core::lists::{Bytes, Text};
 use std::alloc::Global;
 use std::marker::Model;
-use wasm_ast::lists::{Bytes, Text};
 
 /// For each kind of call the numbers of the calls that are to fail, counted from 1.
 #[derive(Drop)]

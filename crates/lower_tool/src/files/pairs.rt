@@ -3,8 +3,8 @@
 ghost use Rattle.std.specs.Prelude.{◌≡◌, ◌≢◌, ℕ, ◌-◌, ◌<◌, ◌≤◌, List, [], length, take, drop, min, None, Some, MatchOption, IfOk, OnOk, OnErr};
 ghost use Rattle.lower_tool.specs.Memory.{content_of, IsNamedOnce, StandsAt, AppendsAt};
 
+use num_core::lists::{Bytes, Text};
 use std::alloc::{AllocError, Global};
-use wasm_ast::lists::{Bytes, Text};
 
 /// The place of a file.
 pub fn place_of(files: &[(Text, Bytes)], name: &str) -> Option<usize>

@@ -3,8 +3,8 @@ ghost use Rattle.lower_tool.specs.Memory.{IsNamedOnce};
 
 use super::pairs::{copy_from, place_of};
 use super::{FileFault, Files};
+use num_core::lists::{Bytes, Text};
 use std::marker::Model;
-use wasm_ast::lists::{Bytes, Text};
 
 /// Files in memory that never fail. What is written is dropped.
 #[derive(Drop)]

@@ -1,11 +1,12 @@
-// Sign extensions become a shift to the left and an arithmetic shift to the right. All else stays.
+// Sign extensions become a shift to the left and an arithmetic shift to the right. All else of core modules stays;
+// an instruction that no core module has traps.
 
 ghost use Rattle.std.specs.Prelude.{◌≡◌, ◌++◌, OnOk};
 ghost use Rattle.std.specs.List.{AllByRecursion, flat_map};
 ghost use Rattle.lower_tool.specs.Constants.{ConstantFits};
-ghost use Rattle.lower_tool.specs.Lowered.{lowered_instruction, lowered_pure, shifts_by, unused_bits_of};
+ghost use Rattle.lower_tool.specs.Lowered.{lowered_instruction, lowered_pure, lowered_binary, lowered_conversion, shifts_by};
 
-use meaning_core1::module::{Code1, Instr1, Op1};
+use core1_ast::module::{Code1, Instr1, Op1};
 use num_core::operators::{Bin, Conv, Width};
 use std::alloc::AllocError;
 use wasm_ast::module::{Instr, Op};
@@ -16,18 +17,19 @@ pub fn lower_code(out: &mut Code1, code: &[Instr]) -> Result<(), AllocError>
     ensures constants { OnOk result (AllByRecursion ConstantFits code.now) }
 {
     for instruction in code {
-        lower_instruction(out, *instruction)?;
+        lower_instruction(out, instruction)?;
     }
     Ok(())
 }
 
-fn lower_instruction(out: &mut Code1, instruction: Instr) -> Result<(), AllocError>
-    ensures lowered { OnOk result (out.new ≡ out.old ++ lowered_instruction instruction) }
-    ensures constant { ConstantFits instruction }
+fn lower_instruction(out: &mut Code1, instruction: &Instr) -> Result<(), AllocError>
+    ensures lowered { OnOk result (out.new ≡ out.old ++ lowered_instruction instruction.now) }
+    ensures constant { ConstantFits instruction.now }
 {
     match instruction {
-        Instr::LocalGet(local) => out.push(Instr1::LocalGet(local)),
-        Instr::Pure(op) => lower_pure(out, op),
+        Instr::LocalGet(local) => out.push(Instr1::LocalGet(*local)),
+        Instr::Pure(op) => lower_pure(out, *op),
+        _ => out.push(Instr1::Unreachable),
     }
 }
 
@@ -37,18 +39,30 @@ fn lower_pure(out: &mut Code1, op: Op) -> Result<(), AllocError>
 {
     match op {
         Op::I32Const(n) => out.push(Instr1::Pure(Op1::I32Const(n))),
-        Op::Binary(width, op) => out.push(Instr1::Pure(Op1::Binary(width, op))),
-        Op::Convert(conversion) => extend_by_shifts(out, unused_bits(conversion)),
+        Op::Binary(width, op) => lower_binary(out, width, op),
+        Op::Convert(conversion) => lower_conversion(out, conversion),
+        _ => out.push(Instr1::Unreachable),
     }
 }
 
-/// How many bits of an i32 a sign extension does not read.
-fn unused_bits(conversion: Conv) -> u32
-    ensures { result ≡ unused_bits_of conversion }
+fn lower_binary(out: &mut Code1, width: Width, op: Bin) -> Result<(), AllocError>
+    ensures { OnOk result (out.new ≡ out.old ++ lowered_binary width op) }
+{
+    match width {
+        Width::W32 => out.push(Instr1::Pure(Op1::Binary(Width::W32, op))),
+        Width::W64 => out.push(Instr1::Unreachable),
+    }
+}
+
+/// A sign extension shifts by as many bits of an i32 as it does not read.
+fn lower_conversion(out: &mut Code1, conversion: Conv) -> Result<(), AllocError>
+    ensures { OnOk result (out.new ≡ out.old ++ lowered_conversion conversion) }
 {
     match conversion {
-        Conv::S8of32 => 24,
-        Conv::S16of32 => 16,
+        Conv::S8of32 => extend_by_shifts(out, 24),
+        Conv::S16of32 => extend_by_shifts(out, 16),
+        Conv::Wrap | Conv::Ext32S | Conv::Ext32U | Conv::S8of64 | Conv::S16of64 | Conv::S32of64 =>
+            out.push(Instr1::Unreachable),
     }
 }
 

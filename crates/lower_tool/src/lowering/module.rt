@@ -2,19 +2,20 @@
 
 ghost use Rattle.std.specs.Prelude.{◌≡◌, ◌∷◌, [], ◌++◌, ℕ, map, IfOk, IsTrue, OnOk};
 ghost use Rattle.std.specs.List.{AllByRecursion, flat_map};
-ghost use Rattle.meaning_core1.specs.Typing.{Typed1};
+ghost use Rattle.core1_ast.specs.Typing.{Typed1};
 ghost use Rattle.read_new.specs.Core.{IsCore};
 ghost use Rattle.lower_tool.specs.Constants.{HasFittingConstants};
+ghost use Rattle.lower_tool.specs.Grammar1.{IsBuiltModule1};
 ghost use Rattle.lower_tool.specs.Headline.{Same};
 ghost use Rattle.lower_tool.specs.Room.{HasRoom};
 ghost use Rattle.lower_tool.specs.Mapping.{flattened};
 ghost use Rattle.lower_tool.specs.Lowered.{lowered, lowered_type, lowered_export, lowered_body, lowered_desc};
 
 use super::code::lower_code;
-use meaning_core1::module::{Body1, Export1, ExportDesc1, FuncType1, Module1, Ty1};
+use core1_ast::module::{Body1, Export1, ExportDesc1, FuncType1, Module1, Ty1};
+use num_core::lists::TryCopy;
 use sqlite_items::Items;
 use std::alloc::{AllocError, Global};
-use wasm_ast::lists::TryCopy;
 use wasm_ast::module::{Body, Export, ExportDesc, FuncType, Module, Ty};
 
 /// The module of 1.0 that stands for a core module, typed by the rules of 1.0, and the same to a host under every
@@ -22,6 +23,7 @@ use wasm_ast::module::{Body, Export, ExportDesc, FuncType, Module, Ty};
 pub fn lower_core(alloc: Global, source: &Module) -> Result<Module1, AllocError>
     requires { IsCore source.now }
     ensures typed { IfOk result Typed1 }
+    ensures built { IfOk result IsBuiltModule1 }
     ensures same { IfOk result (λ out. (captures : ℕ) → Same 4 16 source.now out captures) }
 {
     let out = lower_module(alloc, source)?;
@@ -57,9 +59,16 @@ fn lower_module(alloc: Global, source: &Module) -> Result<Module1, AllocError>
     let codes = lower_bodies(alloc, source.codes.as_slice())?;
     Ok(Module1 {
         types,
+        imports: Items::new(alloc),
         funcs,
+        tables: Items::new(alloc),
+        memories: Items::new(alloc),
+        globals: Items::new(alloc),
         exports,
+        start: None,
+        elems: Items::new(alloc),
         codes,
+        datas: Items::new(alloc),
     })
 }
 
@@ -89,7 +98,14 @@ fn flatten_type(out: &mut Items<Ty1>, ty: Ty) -> Result<(), AllocError>
     ensures { OnOk result (out.new ≡ out.old ++ flattened ty) }
 {
     match ty {
-        Ty::I32 => out.push(Ty1::I32),
+        Ty::I32 | Ty::Func | Ty::Extern | Ty::Exn => out.push(Ty1::I32),
+        Ty::I64 => out.push(Ty1::I64),
+        Ty::F32 => out.push(Ty1::F32),
+        Ty::F64 => out.push(Ty1::F64),
+        Ty::V128 => {
+            out.push(Ty1::I64)?;
+            out.push(Ty1::I64)
+        }
     }
 }
 
@@ -109,7 +125,10 @@ fn lower_desc(desc: ExportDesc) -> ExportDesc1
     ensures { result ≡ lowered_desc desc }
 {
     match desc {
-        ExportDesc::Func(function) => ExportDesc1::Func(function),
+        ExportDesc::Func(index) => ExportDesc1::Func(index),
+        ExportDesc::Table(index) => ExportDesc1::Table(index),
+        ExportDesc::Memory(index) => ExportDesc1::Memory(index),
+        ExportDesc::Global(index) | ExportDesc::Tag(index) => ExportDesc1::Global(index),
     }
 }
 

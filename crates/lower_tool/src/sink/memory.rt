@@ -5,9 +5,9 @@ ghost use Rattle.lower_tool.specs.Causes.{HasCause};
 
 use super::{Sink, SinkFault};
 use crate::calls::Calls;
+use num_core::lists::Bytes;
 use std::alloc::Global;
 use std::marker::Model;
-use wasm_ast::lists::Bytes;
 
 /// A sink in memory, some of whose calls fail.
 #[derive(Drop)]

@@ -1,7 +1,7 @@
 ghost use Rattle.std.specs.Prelude.{MatchOption};
 ghost use Rattle.lower_tool.specs.Words.{IsLower, IsCommand};
 
-use wasm_ast::lists::Text;
+use num_core::lists::Text;
 
 /// The command that the words are, if they are one.
 pub fn command(words: &[Text]) -> Option<(&str, &str)>

@@ -7,8 +7,8 @@ ghost use Rattle.lower_tool.specs.Verdict.{file_limit};
 
 use super::stop::{Refusal, Stop};
 use crate::files::Files;
+use num_core::lists::Bytes;
 use std::alloc::Global;
-use wasm_ast::lists::Bytes;
 
 /// The most bytes that a file may have.
 pub const FILE_LIMIT: usize = 67_108_864;

@@ -10,8 +10,8 @@ use super::input::read_file;
 use super::stop::Stop;
 use crate::files::Files;
 use crate::lowering::lower_bytes;
+use num_core::lists::Bytes;
 use std::alloc::Global;
-use wasm_ast::lists::Bytes;
 
 /// What is to be written for a file. It reads the file alone, and writes nothing.
 pub fn prepare<F: Files>(alloc: Global, input: &str, files: &mut F) -> Result<Bytes, Stop>

@@ -2,22 +2,24 @@
 
 ghost use Rattle.std.specs.Prelude.{◌≡◌, ◌∷◌, [], ◌++◌, IfOk, OnOk};
 ghost use Rattle.lower_tool.specs.Appends.{Appends, AppendsSection};
-ghost use Rattle.lower_tool.specs.Grammar1.{BodyTexts1, Spells1};
+ghost use Rattle.std.specs.List.{AllByRecursion};
+ghost use Rattle.lower_tool.specs.Grammar1.{IsBuilt1, IsBuiltModule1, BodyTexts1, Spells1};
 ghost use Rattle.wasm_frame.specs.Frame.{section};
 ghost use Rattle.wasm_frame.specs.Name.{byte_vector};
 
 use super::code::body_text;
 use super::written::{Written, write_byte, write_length, write_vector};
-use meaning_core1::module::{Body1, Module1};
+use core1_ast::module::{Body1, Module1};
+use num_core::lists::Bytes;
 use sqlite_items::Items;
 use std::alloc::{AllocError, Global};
-use wasm_ast::lists::Bytes;
 
 static HEAD: [u8; 8] = *b"\0asm\x01\0\0\0";
 
 /// Bytes that spell a module of 1.0: the head and a section for each kind of part. It fails for want of memory
 /// alone.
 pub fn write_module(alloc: Global, source: &Module1) -> Result<Bytes, AllocError>
+    requires { IsBuiltModule1 source.now }
     ensures { IfOk result (λ bytes. Spells1 bytes source.now) }
 {
     let mut out = Bytes::new(alloc);
@@ -57,6 +59,7 @@ impl Written for Bytes {
 
 /// The text of each body.
 fn body_texts(alloc: Global, bodies: &[Body1]) -> Result<Items<Bytes>, AllocError>
+    requires { AllByRecursion (λ b. AllByRecursion IsBuilt1 b.code) bodies.now }
     ensures { IfOk result (λ texts. BodyTexts1 texts bodies.now) }
 {
     let mut texts = Items::new(alloc);

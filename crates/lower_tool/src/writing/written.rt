@@ -5,8 +5,8 @@ ghost use Rattle.grammar_kit.specs.Form.{Form, byte, many, vector};
 ghost use Rattle.lower_tool.specs.Appends.{Appends};
 ghost use Rattle.wasm_frame.specs.Leb128.{u32};
 
+use num_core::lists::Bytes;
 use std::alloc::AllocError;
-use wasm_ast::lists::Bytes;
 use wasm_frame::numbers::put_u32;
 
 /// A value that a binary format can spell.

@@ -2,8 +2,8 @@ ghost use Rattle.grammar_kit.specs.Gives.{Gives, GivesOption};
 ghost use Rattle.read_new.specs.Parts.{export_desc, export};
 
 use grammar_kit::{Entry, FormError, read_byte};
+use num_core::lists::Text;
 use std::alloc::Global;
-use wasm_ast::lists::Text;
 use wasm_ast::module::{Export, ExportDesc};
 use wasm_frame::names::split_name;
 use wasm_frame::numbers::split_u32;

@@ -1,5 +1,5 @@
 use super::value::Values;
-use crate::lists::Text;
+use num_core::lists::Text;
 use sqlite_items::Items;
 
 /// One thing that the host does with an instance.

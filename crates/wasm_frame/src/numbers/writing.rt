@@ -5,8 +5,8 @@ ghost use Rattle.wasm_frame.specs.Signed.{bits_of, FitsBits};
 use super::Sign;
 use super::last_byte::last_byte;
 use arrayvec::ArrayVec;
+use num_core::lists::Bytes;
 use std::alloc::AllocError;
-use wasm_ast::lists::Bytes;
 
 /// The shortest spelling of a number of `width` bits.
 fn shortest(sign: Sign, width: u32, bits: u64) -> ArrayVec<u8, 10>

@@ -1,4 +1,4 @@
-use Rattle.std.proofs.Common.{◌≡◌, ℕ, List, [], ◌∷◌, refl, lit<, arith}
+use Rattle.std.proofs.Common.{◌≡◌, ℕ, [], ◌∷◌, refl, lit<, arith}
 use Rattle.wasm_ast.specs.declared.script.items.Script.{Script}
 use Rattle.meaning_core1.specs.Modules.{trace1}
 use Rattle.meaning_new.specs.Example.{call_f}

@@ -1,3 +1,4 @@
+use Rattle.std.proofs.Common.{rules}
 use Rattle.read_new.proofs.CoreModules.{refused_by, no_sections, no_types, no_funcs, no_exports, no_bodies, no_codes, is_read, not_read}
 use Rattle.read_new.proofs.reading.read.Goals as goal
 
@@ -32,4 +33,4 @@ returns-then-branch-clause-read c =
 pub returns-else-branch-clause-refused : goal.returns-else-branch-clause-refused
 returns-else-branch-clause-refused c = λ refused.
     let k = c.in_ok-codes.ensures in
-    not_read _ _ _ _ _ c.in_ok-payloads.ensures _ k.0 _ c.in_ok-types.ensures c.in_ok-funcs.ensures c.in_ok-exports.ensures c.in_ok-bodies.ensures k.1 k.2 k.3 (λ core. let sure = c.in_ok-is_core.ensures.1 core in cc)
+    not_read _ _ _ _ _ c.in_ok-payloads.ensures _ k.0 _ c.in_ok-types.ensures c.in_ok-funcs.ensures c.in_ok-exports.ensures c.in_ok-bodies.ensures k.1 k.2 k.3 (search rules) (λ core. let sure = c.in_ok-is_core.ensures.1 core in cc)

@@ -6,13 +6,13 @@ use Rattle.read_new.proofs.typing.is_typed.Goals as goal
 pub returns-then-not-branch : goal.returns-then-not-branch
 returns-then-not-branch c =
     let within : c.loop-instr.instr-index < length c.args.code.now = omega arith in
-    let stuck = stuck_typed _ c.args.code.now c.loop-instr.instr-index _ within (λ after s. let sure = c.in_ok-step.ensures.only after s in cc) in
+    let stuck = stuck_typed _ c.args.code.now c.loop-instr.instr-index _ within c.instr-item.is (λ after s. let sure = c.in_ok-step.ensures.only after s in cc) in
     (λ no. cc, λ typed. absurd (stuck (c.loop-instr.invariant.1 typed)))
 
 pub loop-instr-preserved : goal.loop-instr-preserved
 loop-instr-preserved c =
     let within : c.loop-instr.instr-index < length c.args.code.now = omega arith in
-    let same = step_typed _ c.args.code.now c.loop-instr.instr-index _ within (c.in_ok-step.ensures.yes c.if-not-branch.false) in
+    let same = step_typed _ c.args.code.now c.loop-instr.instr-index _ within c.instr-item.is (c.in_ok-step.ensures.yes c.if-not-branch.false) in
     (λ rest. c.loop-instr.invariant.0 (same.1 rest), λ typed. same.0 (c.loop-instr.invariant.1 typed))
 
 pub returns : goal.returns

@@ -1,6 +1,6 @@
 use Rattle.std.proofs.Common.{◌<◌, length, add-one, arith}
 use Rattle.std.proofs.lemmas.List.{take_more, map-append}
-use Rattle.meaning_core1.specs.declared.module.ty.Ty1.TheVariants.{I32}
+use Rattle.core1_ast.specs.declared.module.ty.Ty1.TheVariants.{I32}
 use Rattle.lower_tool.specs.Grammar1.{group1}
 use Rattle.lower_tool.proofs.Appending.{appends_more}
 use Rattle.lower_tool.proofs.writing.code.write_groups.Goals as goal

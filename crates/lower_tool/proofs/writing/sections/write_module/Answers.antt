@@ -13,3 +13,4 @@ returns c =
     (same_items _ 7 _ _ _ _ c.as_slice-3.ensures c.in_ok-write_section-3.ensures)
     (same_items _ 10 _ _ _ _ c.as_slice-5.ensures c.in_ok-write_section-4.ensures)
     (subst (λ bodies. BodyTexts1 c.in_ok-texts.texts bodies) c.as_slice-4.ensures c.in_ok-texts.ensures)
+    c.requires.bare

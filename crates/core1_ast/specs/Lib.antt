@@ -1,0 +1,6 @@
+pub mod Spaces
+pub mod Operands
+pub mod Lengths
+pub mod Code
+pub mod Typing
+pub mod Example

@@ -1,0 +1,88 @@
+ghost use Rattle.std.specs.Prelude.{◌≡◌, ◌||◌, not, IfOk};
+ghost use Rattle.std.specs.List.{list_any};
+ghost use Rattle.wasm_ast.specs.Features.{shows};
+ghost use Rattle.wasm_ast.specs.Places.{anywhere, outside_elements, declares, holds};
+ghost use Rattle.wasm_ast.specs.Spaces.{imported, is_global};
+ghost use Rattle.wasm_ast.specs.Has.{has_of, is_one_simple, has_simple_offset};
+
+use super::declared::{declares, holds};
+use super::host::{
+    exports_exnref, exports_table, exports_wide_global, imports_exnref, imports_memory,
+    imports_mutable_global, imports_table, imports_tag, imports_wide_global, imports_wide_memory,
+    imports_wide_table, tags_exnref,
+};
+use super::instructions::Shows;
+use super::kind::Feature;
+use super::parts::{
+    has_computed_datas, has_computed_elements, has_computed_globals, has_initialisers, has_passive,
+    has_several_results, has_table, has_two_memories, is_memory_wide, is_table_wide,
+};
+use super::places::{anywhere, outside_elements};
+use crate::kept::keeps_table;
+use crate::module::Module;
+use crate::spaces::imported_globals;
+use std::alloc::{AllocError, Global};
+
+/// Whether the module has the feature, in code that cannot be reached too. It is one pass over the module, but for
+/// `Tables` one look-up in a map for each function type, and for `HostExnref` one pass over the function type of each
+/// import, tag and export. It fails for want of memory alone.
+pub fn has(alloc: Global, m: &Module, feature: Feature) -> Result<bool, AllocError>
+    ensures { IfOk result (λ yes. yes ≡ has_of m.now feature) }
+{
+    match feature {
+        Feature::WideGlobal => Ok(imports_wide_global(m) || exports_wide_global(alloc, m)?),
+        Feature::HostExnref => {
+            Ok(imports_exnref(m) || tags_exnref(m) || exports_exnref(alloc, m)?)
+        }
+        Feature::Tables => { Ok(in_code(m, feature) || (has_table(m) && !keeps_table(alloc, m)?)) }
+        Feature::WideTable => Ok(imports_wide_table(m) || is_table_wide(m.tables.as_slice())),
+        Feature::TableInitialiser => Ok(has_initialisers(m.tables.as_slice())),
+        Feature::ImportedTable => Ok(imports_table(m)),
+        Feature::ImportedTag => Ok(imports_tag(m)),
+        Feature::ImportedMutableGlobal => Ok(imports_mutable_global(m)),
+        Feature::ImportedMemory => Ok(imports_memory(m)),
+        Feature::ExportedTable => Ok(exports_table(m)),
+        Feature::ExnrefTable => Ok(holds(m, Feature::Exceptions)),
+        Feature::WideMemory => Ok(imports_wide_memory(m) || is_memory_wide(m.memories.as_slice())),
+        Feature::Memories => Ok(has_two_memories(m)),
+        Feature::Constants => Ok(has_computed_values(m)),
+        Feature::Multi => Ok(has_several_results(m.types.as_slice()) || in_code(m, feature)),
+        Feature::Bulk => Ok(has_passive(m.datas.as_slice()) || in_code(m, feature)),
+        Feature::Floats | Feature::Simd => {
+            Ok(declares(m, feature) || holds(m, feature) || in_code(m, feature))
+        }
+        Feature::Refs => Ok(declares(m, feature) || outside_elements(&Shows { feature }, m)),
+        Feature::Exceptions => Ok(has_exceptions(m)),
+        Feature::Sign | Feature::TypedSelect | Feature::LateLanes | Feature::Tail => {
+            Ok(in_code(m, feature))
+        }
+    }
+}
+
+/// Whether an instruction of the module shows the feature.
+fn in_code(m: &Module, feature: Feature) -> bool
+    ensures { result ≡ anywhere (shows feature) m.now }
+{
+    anywhere(&Shows { feature }, m)
+}
+
+/// Whether an initial value or an offset is not one constant and not one imported global.
+fn has_computed_values(m: &Module) -> bool
+    ensures { result ≡ has_of m.now Feature.Constants }
+{
+    let count = imported_globals(m);
+    has_computed_globals(m.globals.as_slice(), count)
+        || has_computed_elements(m.elems.as_slice(), count)
+        || has_computed_datas(m.datas.as_slice(), count)
+}
+
+/// Whether there is a tag, exnref or an instruction on exceptions.
+fn has_exceptions(m: &Module) -> bool
+    ensures { result ≡ has_of m.now Feature.Exceptions }
+{
+    !m.tags.is_empty()
+        || imports_tag(m)
+        || declares(m, Feature::Exceptions)
+        || holds(m, Feature::Exceptions)
+        || in_code(m, Feature::Exceptions)
+}
