@@ -4,3 +4,4 @@ pub mod Flags
 pub mod Pairs
 pub mod Held
 pub mod Used
+pub mod Exnref

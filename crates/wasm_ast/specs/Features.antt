@@ -39,7 +39,7 @@ abbrev pub is_exnref : Ty → Bool
 is_exnref types.Exn = true
 is_exnref _ = false
 
-abbrev pub type_shows : Feature → Ty → Bool
+unfoldable pub type_shows : Feature → Ty → Bool
 type_shows features.Floats t = is_float t
 type_shows features.Simd t = is_vector t
 type_shows features.Refs t = is_plain_reference t

@@ -17,15 +17,13 @@ use Rattle.wasm_ast.specs.declared.module.parts.Mode.TheVariants.{Active, Passiv
 use Rattle.wasm_ast.specs.declared.module.parts.Module.{Module}
 use Rattle.wasm_ast.specs.declared.features.kind.Feature.{Feature}
 use Rattle.wasm_ast.specs.declared.features.kind.Feature.TheVariants as features
+use Rattle.wasm_ast.specs.declared.features.imports.ImportTest.{ImportTest}
+use Rattle.wasm_ast.specs.declared.features.imports.ImportTest.TheVariants as tests
 use Rattle.wasm_ast.specs.Occurrence.{Head, head_of}
 use Rattle.wasm_ast.specs.Features.{is_vector, is_reference, shows}
-use Rattle.wasm_ast.specs.Places.{anywhere, outside_elements, func_type_shows, declares, holds}
+use Rattle.wasm_ast.specs.Places.{anywhere, outside_elements, func_type_shows, global_import_shows, table_import_shows, declares, holds}
 use Rattle.wasm_ast.specs.Spaces.{is_table, is_memory, is_global, is_tag, func_indices, global_types, imported, table_count, memory_count}
 use Rattle.wasm_ast.specs.Kept.{keeps_table}
-
--- an import that passes a test
-abbrev pub imports_some : (ImportDesc → Bool) → Module → Bool
-imports_some kind m = list_any (λ i. kind i.desc) m.imports
 
 -- tables and memories with 64-bit addresses
 abbrev pub is_wide_table : ImportDesc → Bool
@@ -35,6 +33,34 @@ is_wide_table _ = false
 abbrev pub is_wide_memory : ImportDesc → Bool
 is_wide_memory (imports.Memory limits) = limits.wide
 is_wide_memory _ = false
+
+-- mutable globals, and globals of a type that 1.0 lacks
+abbrev pub is_mutable_global : ImportDesc → Bool
+is_mutable_global (imports.Global t mutable) = mutable
+is_mutable_global _ = false
+
+abbrev pub is_wide_type : Ty → Bool
+is_wide_type t = is_vector t || is_reference t
+
+abbrev pub is_wide_global : ImportDesc → Bool
+is_wide_global (imports.Global t mutable) = is_wide_type t
+is_wide_global _ = false
+
+-- what is asked of an import
+abbrev pub import_passes : ImportTest → ImportDesc → Bool
+import_passes tests.Table d = is_table d
+import_passes tests.Memory d = is_memory d
+import_passes tests.Tag d = is_tag d
+import_passes tests.MutableGlobal d = is_mutable_global d
+import_passes tests.WideTable d = is_wide_table d
+import_passes tests.WideMemory d = is_wide_memory d
+import_passes tests.WideGlobal d = is_wide_global d
+import_passes (tests.GlobalShows f) d = global_import_shows f d
+import_passes (tests.TableShows f) d = table_import_shows f d
+
+-- an import that passes a test
+abbrev pub imports_some : (ImportDesc → Bool) → Module → Bool
+imports_some kind m = list_any (λ i. kind i.desc) m.imports
 
 -- one ref.null or one ref.func
 abbrev pub makes_reference : Head → Bool
@@ -50,18 +76,6 @@ abbrev pub has_initialiser : Option (List Instr) → Bool
 has_initialiser (Some code) = not (is_one_reference code)
 has_initialiser None = false
 
--- mutable globals, and globals of a type that 1.0 lacks
-abbrev pub is_mutable_global : ImportDesc → Bool
-is_mutable_global (imports.Global t mutable) = mutable
-is_mutable_global _ = false
-
-abbrev pub is_wide_type : Ty → Bool
-is_wide_type t = is_vector t || is_reference t
-
-abbrev pub is_wide_global : ImportDesc → Bool
-is_wide_global (imports.Global t mutable) = is_wide_type t
-is_wide_global _ = false
-
 abbrev pub is_wide_at : Option Ty → Bool
 is_wide_at (Some t) = is_wide_type t
 is_wide_at None = false
@@ -74,7 +88,7 @@ abbrev pub is_exported_table : ExportDesc → Bool
 is_exported_table (exports.Table x) = true
 is_exported_table _ = false
 
--- exnref in the type with an index, and in the type of a function of the host's
+-- exnref in the function type with an index
 abbrev pub names_exnref : Option FuncType → Bool
 names_exnref (Some t) = func_type_shows features.Exceptions t
 names_exnref None = false
@@ -82,18 +96,23 @@ names_exnref None = false
 abbrev pub is_exnref_type : Module → ℕ → Bool
 is_exnref_type m t = names_exnref (slice_get m.types t)
 
-abbrev pub imports_exnref : Module → ImportDesc → Bool
-imports_exnref m (imports.Func t) = is_exnref_type m t
-imports_exnref m (imports.Tag t) = is_exnref_type m t
-imports_exnref m _ = false
+-- the function type of an import, of a tag of the module or of an exported function has an index that passes a test
+abbrev pub imports_type : (ℕ → Bool) → ImportDesc → Bool
+imports_type p (imports.Func t) = p t
+imports_type p (imports.Tag t) = p t
+imports_type p _ = false
 
-abbrev pub is_exnref_at : Module → Option ℕ → Bool
-is_exnref_at m (Some t) = is_exnref_type m t
-is_exnref_at m None = false
+abbrev pub passes_at : (ℕ → Bool) → Option ℕ → Bool
+passes_at p (Some t) = p t
+passes_at p None = false
 
-abbrev pub exports_exnref : Module → List ℕ → ExportDesc → Bool
-exports_exnref m indices (exports.Func x) = is_exnref_at m (slice_get indices x)
-exports_exnref m indices _ = false
+abbrev pub exports_type : (ℕ → Bool) → List ℕ → ExportDesc → Bool
+exports_type p indices (exports.Func x) = passes_at p (slice_get indices x)
+exports_type p indices _ = false
+
+abbrev pub meets_type : (ℕ → Bool) → Module → Bool
+meets_type p m =
+    imports_some (imports_type p) m || list_any p m.tags || list_any (λ e. exports_type p (func_indices m) e.desc) m.exports
 
 -- one constant, or one of so many imported globals
 abbrev pub is_constant_op : Op → Bool
@@ -136,8 +155,7 @@ has_of m features.ImportedMemory = imports_some is_memory m
 has_of m features.ExportedTable = list_any (λ e. is_exported_table e.desc) m.exports
 has_of m features.WideGlobal = imports_some is_wide_global m || list_any (λ e. exports_wide_global (global_types m) e.desc) m.exports
 has_of m features.ExnrefTable = holds features.Exceptions m
-has_of m features.HostExnref =
-    imports_some (imports_exnref m) m || list_any (is_exnref_type m) m.tags || list_any (λ e. exports_exnref m (func_indices m) e.desc) m.exports
+has_of m features.HostExnref = meets_type (is_exnref_type m) m
 has_of m features.Sign = anywhere (shows features.Sign) m
 has_of m features.Constants =
     list_any (λ g. not (is_one_simple (imported is_global m) g.init)) m.globals

@@ -8,7 +8,7 @@ use Rattle.lane_core.specs.declared.operators.memory.LaneLoad.{LaneLoad}
 use Rattle.lane_core.specs.declared.operators.memory.LaneLoad.TheVariants as loads
 
 -- absolute values, counts of bits, sums of neighbours, and halves extended
-abbrev pub is_late1 : Lane1 → Bool
+unfoldable pub is_late1 : Lane1 → Bool
 is_late1 ones.I8x16Abs = true
 is_late1 ones.I8x16Popcnt = true
 is_late1 ones.I16x8Abs = true
@@ -33,7 +33,7 @@ is_late1 ones.I64x2ExtendHighI32x4U = true
 is_late1 _ = false
 
 -- narrowing
-abbrev pub narrows : Lane2 → Bool
+unfoldable pub narrows : Lane2 → Bool
 narrows twos.I8x16NarrowI16x8S = true
 narrows twos.I8x16NarrowI16x8U = true
 narrows twos.I16x8NarrowI32x4S = true
@@ -41,7 +41,7 @@ narrows twos.I16x8NarrowI32x4U = true
 narrows _ = false
 
 -- saturated sums, differences and fixed-point products
-abbrev pub saturates : Lane2 → Bool
+unfoldable pub saturates : Lane2 → Bool
 saturates twos.I8x16AddSatS = true
 saturates twos.I8x16AddSatU = true
 saturates twos.I8x16SubSatS = true
@@ -54,7 +54,7 @@ saturates twos.I16x8Q15mulrSatS = true
 saturates _ = false
 
 -- extremes and averages
-abbrev pub picks : Lane2 → Bool
+unfoldable pub picks : Lane2 → Bool
 picks twos.I8x16MinS = true
 picks twos.I8x16MinU = true
 picks twos.I8x16MaxS = true
@@ -72,7 +72,7 @@ picks twos.I32x4MaxU = true
 picks _ = false
 
 -- products of halves, and sums of products
-abbrev pub multiplies_halves : Lane2 → Bool
+unfoldable pub multiplies_halves : Lane2 → Bool
 multiplies_halves twos.I16x8ExtmulLowI8x16S = true
 multiplies_halves twos.I16x8ExtmulHighI8x16S = true
 multiplies_halves twos.I16x8ExtmulLowI8x16U = true
@@ -88,11 +88,11 @@ multiplies_halves twos.I64x2ExtmulLowI32x4U = true
 multiplies_halves twos.I64x2ExtmulHighI32x4U = true
 multiplies_halves _ = false
 
-abbrev pub is_late2 : Lane2 → Bool
+unfoldable pub is_late2 : Lane2 → Bool
 is_late2 op = narrows op || saturates op || picks op || multiplies_halves op
 
 -- loads that extend lanes, and loads of one lane over zeros
-abbrev pub is_late_load : LaneLoad → Bool
+unfoldable pub is_late_load : LaneLoad → Bool
 is_late_load loads.Load8x8S = true
 is_late_load loads.Load8x8U = true
 is_late_load loads.Load16x4S = true

@@ -1,7 +1,9 @@
 // What a module uses beyond 1.0, and what lies outside the profile, feature by feature.
 
 mod declared;
-mod host;
+mod exnref;
+mod exports;
+mod imports;
 mod instructions;
 mod kind;
 mod lanes;

@@ -3,8 +3,9 @@
 
 pub mod features;
 pub mod folding;
-mod kept;
+pub mod kept;
 pub mod lists;
+mod marking;
 pub mod module;
 pub mod occurrence;
 pub mod script;

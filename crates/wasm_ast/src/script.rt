@@ -1,5 +1,6 @@
 // What a host does with a module, and what it sees of it.
 
+mod copies;
 mod event;
 mod items;
 mod value;

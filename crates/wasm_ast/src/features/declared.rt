@@ -3,11 +3,12 @@
 ghost use Rattle.std.specs.Prelude.{◌≡◌};
 ghost use Rattle.std.specs.List.{list_any};
 ghost use Rattle.wasm_ast.specs.Features.{type_shows};
-ghost use Rattle.wasm_ast.specs.Places.{func_type_shows, global_import_shows, table_import_shows, declares, holds};
+ghost use Rattle.wasm_ast.specs.Places.{func_type_shows, declares, holds};
 
+use super::imports::{ImportTest, some_import};
 use super::kind::Feature;
 use super::types::{type_shows, types_show};
-use crate::module::{Body, Element, FuncType, Global, Import, ImportDesc, Module, Table};
+use crate::module::{Body, Element, FuncType, Global, Module, Table};
 
 /// Whether the function type names a type that shows the feature.
 pub fn func_type_shows(ty: &FuncType, feature: Feature) -> bool
@@ -21,25 +22,6 @@ fn func_types_show(types: &[FuncType], feature: Feature) -> bool
     ensures { result ≡ list_any (func_type_shows feature) types.now }
 {
     types.iter().any(|ty| func_type_shows(ty, feature))
-}
-
-/// Whether the import is a global of a type that shows the feature.
-fn global_import_shows(import: &Import, feature: Feature) -> bool
-    ensures { result ≡ global_import_shows feature import.now.desc }
-{
-    match import.desc {
-        ImportDesc::Global(ty, _) => type_shows(ty, feature),
-        _ => false,
-    }
-}
-
-/// Whether one of the imports is a global of a type that shows the feature.
-fn global_imports_show(imports: &[Import], feature: Feature) -> bool
-    ensures { result ≡ list_any (λ i. global_import_shows feature i.desc) imports.now }
-{
-    imports
-        .iter()
-        .any(|import| global_import_shows(import, feature))
 }
 
 /// Whether one of the globals has a type that shows the feature.
@@ -63,28 +45,9 @@ pub fn declares(m: &Module, feature: Feature) -> bool
     ensures { result ≡ declares feature m.now }
 {
     func_types_show(m.types.as_slice(), feature)
-        || global_imports_show(m.imports.as_slice(), feature)
+        || some_import(m.imports.as_slice(), ImportTest::GlobalShows(feature))
         || globals_show(m.globals.as_slice(), feature)
         || locals_show(m.codes.as_slice(), feature)
-}
-
-/// Whether the import is a table of a type that shows the feature.
-fn table_import_shows(import: &Import, feature: Feature) -> bool
-    ensures { result ≡ table_import_shows feature import.now.desc }
-{
-    match import.desc {
-        ImportDesc::Table(ty, _) => type_shows(ty, feature),
-        _ => false,
-    }
-}
-
-/// Whether one of the imports is a table of a type that shows the feature.
-fn table_imports_show(imports: &[Import], feature: Feature) -> bool
-    ensures { result ≡ list_any (λ i. table_import_shows feature i.desc) imports.now }
-{
-    imports
-        .iter()
-        .any(|import| table_import_shows(import, feature))
 }
 
 /// Whether one of the tables has a type that shows the feature.
@@ -107,7 +70,7 @@ fn elements_show(elements: &[Element], feature: Feature) -> bool
 pub fn holds(m: &Module, feature: Feature) -> bool
     ensures { result ≡ holds feature m.now }
 {
-    table_imports_show(m.imports.as_slice(), feature)
+    some_import(m.imports.as_slice(), ImportTest::TableShows(feature))
         || tables_show(m.tables.as_slice(), feature)
         || elements_show(m.elems.as_slice(), feature)
 }

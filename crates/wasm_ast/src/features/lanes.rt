@@ -6,6 +6,7 @@ ghost use Rattle.wasm_ast.specs.LateLanes.{is_late1, is_late2, is_late_load, nar
 use lane_core::operators::{Lane1, Lane2, LaneLoad};
 
 /// Whether a vector from one vector is built late.
+#[tactic(auto, unfolding(crate::specs::LateLanes::is_late1))]
 pub fn is_late1(op: Lane1) -> bool
     ensures { result ≡ is_late1 op }
 {
@@ -36,6 +37,7 @@ pub fn is_late1(op: Lane1) -> bool
 }
 
 /// Whether a vector from two vectors is built late.
+#[tactic(auto, unfolding(crate::specs::LateLanes::is_late2))]
 pub fn is_late2(op: Lane2) -> bool
     ensures { result ≡ is_late2 op }
 {
@@ -43,6 +45,7 @@ pub fn is_late2(op: Lane2) -> bool
 }
 
 /// Whether a load of a vector is built late.
+#[tactic(auto, unfolding(crate::specs::LateLanes::is_late_load))]
 pub fn is_late_load(op: LaneLoad) -> bool
     ensures { result ≡ is_late_load op }
 {
@@ -60,6 +63,7 @@ pub fn is_late_load(op: LaneLoad) -> bool
 }
 
 /// Whether it narrows lanes.
+#[tactic(auto, unfolding(crate::specs::LateLanes::narrows))]
 fn narrows(op: Lane2) -> bool
     ensures { result ≡ narrows op }
 {
@@ -73,6 +77,7 @@ fn narrows(op: Lane2) -> bool
 }
 
 /// Whether its lanes are saturated sums, differences or fixed-point products.
+#[tactic(auto, unfolding(crate::specs::LateLanes::saturates))]
 fn saturates(op: Lane2) -> bool
     ensures { result ≡ saturates op }
 {
@@ -91,6 +96,7 @@ fn saturates(op: Lane2) -> bool
 }
 
 /// Whether its lanes are the lesser, the greater or the average of both.
+#[tactic(auto, unfolding(crate::specs::LateLanes::picks))]
 fn picks(op: Lane2) -> bool
     ensures { result ≡ picks op }
 {
@@ -114,6 +120,7 @@ fn picks(op: Lane2) -> bool
 }
 
 /// Whether its lanes are products of halves or sums of products.
+#[tactic(auto, unfolding(crate::specs::LateLanes::multiplies_halves))]
 fn multiplies_halves(op: Lane2) -> bool
     ensures { result ≡ multiplies_halves op }
 {

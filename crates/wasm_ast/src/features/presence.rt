@@ -3,14 +3,12 @@ ghost use Rattle.std.specs.List.{list_any};
 ghost use Rattle.wasm_ast.specs.Features.{shows};
 ghost use Rattle.wasm_ast.specs.Places.{anywhere, outside_elements, declares, holds};
 ghost use Rattle.wasm_ast.specs.Spaces.{imported, is_global};
-ghost use Rattle.wasm_ast.specs.Has.{has_of, is_one_simple, has_simple_offset};
+ghost use Rattle.wasm_ast.specs.Has.{has_of, import_passes, imports_some};
 
 use super::declared::{declares, holds};
-use super::host::{
-    exports_exnref, exports_table, exports_wide_global, imports_exnref, imports_memory,
-    imports_mutable_global, imports_table, imports_tag, imports_wide_global, imports_wide_memory,
-    imports_wide_table, tags_exnref,
-};
+use super::exnref::names_exnref;
+use super::exports::{exports_table, exports_wide_global};
+use super::imports::{ImportTest, some_import};
 use super::instructions::Shows;
 use super::kind::Feature;
 use super::parts::{
@@ -23,27 +21,30 @@ use crate::module::Module;
 use crate::spaces::imported_globals;
 use std::alloc::{AllocError, Global};
 
-/// Whether the module has the feature, in code that cannot be reached too. It is one pass over the module, but for
-/// `Tables` one look-up in a map for each function type, and for `HostExnref` one pass over the function type of each
-/// import, tag and export. It fails for want of memory alone.
+/// Whether the module has the feature, in code that cannot be reached too. It takes time linear in the module, but for
+/// `Tables` one look-up in a map for each function type. It fails for want of memory alone.
 pub fn has(alloc: Global, m: &Module, feature: Feature) -> Result<bool, AllocError>
     ensures { IfOk result (λ yes. yes ≡ has_of m.now feature) }
 {
     match feature {
-        Feature::WideGlobal => Ok(imports_wide_global(m) || exports_wide_global(alloc, m)?),
-        Feature::HostExnref => {
-            Ok(imports_exnref(m) || tags_exnref(m) || exports_exnref(alloc, m)?)
-        }
+        Feature::WideGlobal => Ok(
+            imports_some(m, ImportTest::WideGlobal) || exports_wide_global(alloc, m)?,
+        ),
+        Feature::HostExnref => names_exnref(alloc, m),
         Feature::Tables => { Ok(in_code(m, feature) || (has_table(m) && !keeps_table(alloc, m)?)) }
-        Feature::WideTable => Ok(imports_wide_table(m) || is_table_wide(m.tables.as_slice())),
+        Feature::WideTable => Ok(
+            imports_some(m, ImportTest::WideTable) || is_table_wide(m.tables.as_slice()),
+        ),
         Feature::TableInitialiser => Ok(has_initialisers(m.tables.as_slice())),
-        Feature::ImportedTable => Ok(imports_table(m)),
-        Feature::ImportedTag => Ok(imports_tag(m)),
-        Feature::ImportedMutableGlobal => Ok(imports_mutable_global(m)),
-        Feature::ImportedMemory => Ok(imports_memory(m)),
-        Feature::ExportedTable => Ok(exports_table(m)),
+        Feature::ImportedTable => Ok(imports_some(m, ImportTest::Table)),
+        Feature::ImportedTag => Ok(imports_some(m, ImportTest::Tag)),
+        Feature::ImportedMutableGlobal => Ok(imports_some(m, ImportTest::MutableGlobal)),
+        Feature::ImportedMemory => Ok(imports_some(m, ImportTest::Memory)),
+        Feature::ExportedTable => Ok(exports_table(m.exports.as_slice())),
         Feature::ExnrefTable => Ok(holds(m, Feature::Exceptions)),
-        Feature::WideMemory => Ok(imports_wide_memory(m) || is_memory_wide(m.memories.as_slice())),
+        Feature::WideMemory => Ok(
+            imports_some(m, ImportTest::WideMemory) || is_memory_wide(m.memories.as_slice()),
+        ),
         Feature::Memories => Ok(has_two_memories(m)),
         Feature::Constants => Ok(has_computed_values(m)),
         Feature::Multi => Ok(has_several_results(m.types.as_slice()) || in_code(m, feature)),
@@ -57,6 +58,13 @@ pub fn has(alloc: Global, m: &Module, feature: Feature) -> Result<bool, AllocErr
             Ok(in_code(m, feature))
         }
     }
+}
+
+/// Whether one of the imports passes the test.
+fn imports_some(m: &Module, test: ImportTest) -> bool
+    ensures { result ≡ imports_some (import_passes test) m.now }
+{
+    some_import(m.imports.as_slice(), test)
 }
 
 /// Whether an instruction of the module shows the feature.
@@ -81,7 +89,7 @@ fn has_exceptions(m: &Module) -> bool
     ensures { result ≡ has_of m.now Feature.Exceptions }
 {
     !m.tags.is_empty()
-        || imports_tag(m)
+        || imports_some(m, ImportTest::Tag)
         || declares(m, Feature::Exceptions)
         || holds(m, Feature::Exceptions)
         || in_code(m, Feature::Exceptions)

@@ -8,6 +8,7 @@ use super::kind::Feature;
 use crate::module::Ty;
 
 /// Whether the type shows the feature.
+#[tactic(auto, unfolding(crate::specs::Features::type_shows))]
 pub fn type_shows(ty: Ty, feature: Feature) -> bool
     ensures { result ≡ type_shows feature ty }
 {

@@ -3,9 +3,10 @@
 ghost use Rattle.std.specs.Prelude.{◌≡◌, ◌∷◌, ◌++◌, map, take, IfOk, OnOk};
 ghost use Rattle.wasm_ast.specs.Types.{type_code, type_key};
 ghost use Rattle.wasm_ast.specs.Kept.{lowered_and_own};
-ghost use Rattle.wasm_ast.specs.Marking.{is_marked, marked_items};
+ghost use Rattle.wasm_ast.specs.Marking.{marked_items};
 ghost use Rattle.wasm_ast.specs.Flattening.{flattened, flat, lowered};
 
+use crate::marking::is_marked;
 use crate::module::{FuncType, Ty, type_code};
 use std::alloc::{AllocError, Global};
 
@@ -93,14 +94,4 @@ pub fn marked_keys(
         }
     }
     Ok(pairs)
-}
-
-/// Whether the number is marked.
-fn is_marked(marks: &[bool], number: usize) -> bool
-    ensures { result ≡ is_marked marks.now number }
-{
-    match marks.get(number) {
-        Some(mark) => *mark,
-        None => false,
-    }
 }

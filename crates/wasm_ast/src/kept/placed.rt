@@ -5,7 +5,7 @@ ghost use Rattle.wasm_ast.specs.Kept.{entry_type, types_placed};
 ghost use Rattle.wasm_ast.specs.Marking.{marked};
 
 use super::conditions::entry_func;
-use super::used::mark;
+use crate::marking::mark;
 use crate::module::{Code, Element, Instr, Mode};
 
 /// The type index of the function of an entry that is one ref.func, by the type index of each function.

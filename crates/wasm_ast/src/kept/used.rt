@@ -1,22 +1,13 @@
 // The function types that indirect calls name, as flags by type index.
 
-ghost use Rattle.std.specs.Prelude.{◌≡◌, [], true, flat_map, slice_set, unwrap_or};
+ghost use Rattle.std.specs.Prelude.{◌≡◌, [], flat_map, unwrap_or};
 ghost use Rattle.wasm_ast.specs.declared.module.code.Instr.{out-Instr};
 ghost use Rattle.wasm_ast.specs.Occurrence.{head_of, inside};
 ghost use Rattle.wasm_ast.specs.Kept.{type_called, called, called_in, called_in_offset, called_in_element, called_anywhere};
 ghost use Rattle.wasm_ast.specs.Marking.{marked};
 
+use crate::marking::mark;
 use crate::module::{Body, Code, Element, Global, Instr, Mode, Module, Segment, Table};
-
-/// Sets the flag with this index, if there is one.
-pub fn mark(used: &mut [bool], index: u32)
-    ensures { used.new ≡ slice_set used.old index true }
-{
-    let place = index as usize;
-    if place < used.len() {
-        used[place] = true;
-    }
-}
 
 /// Marks the type that the instruction itself calls by.
 fn mark_called(instr: &Instr, used: &mut [bool])
