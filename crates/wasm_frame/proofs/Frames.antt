@@ -1,7 +1,7 @@
 -- A file has one list of sections and one ending, and reading on section by section finds them.
 use Rattle.std.proofs.Common.{◌≡◌, ℕ, ◌+◌, ◌-◌, ◌<◌, ◌≤◌, List, [], ◌∷◌, ◌++◌, length, map, Some, None, refl, sym, ap, subst, ◌∙◌, append_assoc, arith}
-use Rattle.std.specs.Prelude.{slice_range, Result, Ok, Err, IsOk, ◌↔◌}
-use Rattle.std.proofs.lemmas.List.{take_at, drop_at, length-append, append-nil, append_cancel_left, map_push}
+use Rattle.std.specs.Prelude.{slice_range, Result, Ok, Err, IsOk, IfOk, ◌↔◌}
+use Rattle.std.proofs.lemmas.List.{take_at, drop_at, length-append, length-map, append-nil, append_cancel_left, map_push}
 use Rattle.grammar_kit.specs.Exact.{Exact}
 use Rattle.grammar_kit.proofs.Combinators.{exact_rules}
 use Rattle.grammar_kit.proofs.Consequences.{one_front, none_spells}
@@ -127,10 +127,34 @@ parts_with b found x s more e =
     let part : Section → Part = λ y. record { id = y.id; payload = slice_range b y.start y.end } in
     ap (λ (ps : List Part). ps ++ more) (map_push part found x) ∙ append_assoc (map part found) (part x ∷ []) more ∙ ap (λ (r : Part). map part found ++ r ∷ more) e
 
+-- ---- a section takes a byte at least
+
+some_bytes : (t : List ℕ) (s : Part) → section.text t s → 1 ≤ length t
+unfolding section
+some_bytes [] s h = absurd (cc (h.3, h.4))
+some_bytes (a ∷ t) s h = omega arith
+
+few_parts : (left b : List ℕ) (parts : List Part) (end : Ending) → Sections left b parts end → length parts ≤ length b
+few_parts left b [] end h = omega arith
+few_parts left b (s ∷ parts) end h =
+    let first = some_bytes h.0 s h.4 in
+    let others = few_parts h.2 h.1 parts end h.6 in
+    omega (arith, first, others, ap length h.3, length-append h.0 h.1)
+
+few_sections : (v : Version) (b : List ℕ) (found : List Section) → Frame v b (parts_of b found) Whole → length found ≤ length b
+few_sections v b found h =
+    let few = few_parts (order v) h.0 (parts_of b found) Whole h.2 in
+    let part : Section → Part = λ x. record { id = x.id; payload = slice_range b x.start x.end } in
+    omega (arith, few, length-map found part, ap length h.1, length-append head h.0)
+
 -- ---- when each answer comes
 
 same_ending : (v : Version) (b : List ℕ) (parts others : List Part) (end ending : Ending) → Frame v b parts end → Frame v b others ending → end ≡ ending
 same_ending v b parts others end ending p q = (one_frame v b parts others end ending p q).1
+
+pub when_few : (v : Version) (b : List ℕ) (result : Result (List Section) FrameFault) → Tells v b result → IfOk result (λ found. length found ≤ length b)
+when_few v b (Ok found) tells = few_sections v b found tells
+when_few v b (Err e) tells = tt
 
 pub when_ok : (v : Version) (b : List ℕ) (r : Result (List Section) FrameFault) → Tells v b r → UnlessMemory r (IsOk r ↔ ((parts : List Part) × Frame v b parts Whole))
 when_ok v b (Ok found) h = (λ k. (parts_of b found, h), λ f. refl)

@@ -3,6 +3,7 @@
 
 pub mod names;
 pub mod numbers;
+pub mod payloads;
 pub mod sections;
 #[cfg(test)]
 mod tests;

@@ -1,5 +1,5 @@
 // The frame of a file: a head, and then sections, each an id, a size and a payload.
-ghost use Rattle.std.specs.Prelude.{◌≡◌, ℕ, List, ◌↔◌, All, IfOk, IsOk, Err};
+ghost use Rattle.std.specs.Prelude.{◌≡◌, ℕ, List, ◌≤◌, length, ◌↔◌, All, IfOk, IsOk, Err};
 ghost use Rattle.wasm_frame.specs.Frame.{Part, Ending, Whole, NoSize, NoPlace, Frame, IsHeaded, IsWithin, UnlessMemory, parts_of};
 
 mod walking;
@@ -65,6 +65,7 @@ pub fn sections(alloc: Global, b: &[u8], v: Version) -> Result<Sections, FrameFa
     // The sections are those of the file, and their ranges lie within it.
     ensures found { IfOk result (λ found. Frame v b.now (parts_of b.now found) Whole) }
     ensures ranges { IfOk result (λ found. All (IsWithin b.now) found) }
+    ensures few { IfOk result (λ found. length found ≤ length b.now) }
 
     // When each answer comes.
     ensures ok { UnlessMemory result (IsOk result ↔ ((parts : List Part) × Frame v b.now parts Whole)) }

@@ -1,0 +1,5 @@
+pub mod CodeForms
+pub mod Leaves
+pub mod Sizes
+pub mod Tables
+pub mod TypeForms

@@ -1,0 +1,31 @@
+-- Immediates of instructions: chapter 5 of the standard, "Memory Instructions" and "Control Instructions".
+use Rattle.std.specs.Prelude.{ℕ, ◌-◌, ◌==◌, nat_lt, Option, Some, None}
+use Rattle.wasm_ast.specs.declared.module.immediates.MemArg.{MemArg}
+use Rattle.wasm_ast.specs.declared.module.immediates.Catch.{Catch}
+use Rattle.wasm_ast.specs.declared.module.immediates.Catch.TheVariants.{Tag, TagRef, All, AllRef}
+use Rattle.grammar_kit.specs.Form.{Form, never, always, byte, when, ◌>>=◌}
+use Rattle.wasm_frame.specs.Leb128.{u32, u64}
+
+-- no bytes at all spell the value, where there is one
+abbrev pub given : {X : Type 0} → Option X → Form X
+given (Some x) = always x
+given None = never
+
+-- an offset, in an access to this memory with this alignment
+unfoldable pub offset_at : ℕ → ℕ → Form MemArg
+offset_at m align = u64 >>= λ offset. always (record { memory = m; align = align; offset = offset })
+
+-- "Memory Instructions", memory arguments: the field is the alignment, of an access to memory 0, or the alignment and 64, and
+-- the index of a memory follows
+unfoldable pub mem_arg : Form MemArg
+mem_arg = u32 >>= λ field.
+    when (nat_lt field 64) (offset_at 0 field)
+    (when (nat_lt field 128) (u32 >>= λ m. offset_at m (field - 64)) never)
+
+-- "Control Instructions", catch clauses
+unfoldable pub clause : Form Catch
+clause = byte >>= λ kind.
+    when (kind == 0x00) (u32 >>= λ x. u32 >>= λ l. always (Tag x l))
+    (when (kind == 0x01) (u32 >>= λ x. u32 >>= λ l. always (TagRef x l))
+    (when (kind == 0x02) (u32 >>= λ l. always (All l))
+    (when (kind == 0x03) (u32 >>= λ l. always (AllRef l)) never)))

@@ -1,0 +1,72 @@
+ghost use Rattle.grammar_kit.specs.Gives.{Gives};
+ghost use Rattle.code_new.specs.Tokens.{head_at, token_at, token};
+
+use crate::head::Head;
+use crate::immediates::read_clauses;
+use crate::instructions::{read_control, read_instr};
+use crate::types::split_block_type;
+use grammar_kit::{FormError, read_byte};
+use nested_code::Token;
+use std::alloc::Global;
+use wasm_ast::module::Instr;
+
+/// The token with this opcode below 20, with its immediates at the front, and the bytes after them.
+#[tactic(auto, unfolding(crate::specs::Tokens::head_at))]
+fn read_head(
+    alloc: Global,
+    opcode: u8,
+    bytes: &[u8],
+) -> Result<(Token<Instr, Head>, &[u8]), FormError>
+    ensures { Gives (λ p. (p.0, p.1.now)) result ((head_at opcode).read bytes.now) }
+{
+    match opcode {
+        0x02 => {
+            let (ty, rest) = split_block_type(bytes).ok_or(FormError::Malformed)?;
+            Ok((Token::Open(Head::Block(ty)), rest))
+        }
+        0x03 => {
+            let (ty, rest) = split_block_type(bytes).ok_or(FormError::Malformed)?;
+            Ok((Token::Open(Head::Loop(ty)), rest))
+        }
+        0x04 => {
+            let (ty, rest) = split_block_type(bytes).ok_or(FormError::Malformed)?;
+            Ok((Token::Open(Head::If(ty)), rest))
+        }
+        0x05 => Ok((Token::Else, bytes)),
+        0x0B => Ok((Token::End, bytes)),
+        0x1F => {
+            let (ty, rest) = split_block_type(bytes).ok_or(FormError::Malformed)?;
+            let (clauses, rest) = read_clauses(alloc, rest)?;
+            Ok((Token::Open(Head::TryTable(ty, clauses)), rest))
+        }
+        _ => {
+            let (instr, rest) = read_control(alloc, opcode, bytes)?;
+            Ok((Token::Plain(instr), rest))
+        }
+    }
+}
+
+/// What stands behind this opcode, and the bytes after it.
+#[tactic(auto, unfolding(crate::specs::Tokens::token_at))]
+fn read_token_at(
+    alloc: Global,
+    opcode: u8,
+    bytes: &[u8],
+) -> Result<(Token<Instr, Head>, &[u8]), FormError>
+    ensures { Gives (λ p. (p.0, p.1.now)) result ((token_at opcode).read bytes.now) }
+{
+    if opcode < 0x20 {
+        return read_head(alloc, opcode, bytes);
+    }
+    let (instr, rest) = read_instr(opcode, bytes).ok_or(FormError::Malformed)?;
+    Ok((Token::Plain(instr), rest))
+}
+
+/// The token at the front, and the bytes after it ("Instructions" of the standard).
+#[tactic(auto, unfolding(crate::specs::Tokens::token))]
+pub fn read_token(alloc: Global, bytes: &[u8]) -> Result<(Token<Instr, Head>, &[u8]), FormError>
+    ensures { Gives (λ p. (p.0, p.1.now)) result (token.read bytes.now) }
+{
+    let (opcode, rest) = read_byte(bytes).ok_or(FormError::Malformed)?;
+    read_token_at(alloc, opcode, rest)
+}

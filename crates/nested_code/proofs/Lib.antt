@@ -1,0 +1,11 @@
+pub mod Appending
+pub mod Blocks
+pub mod Counts
+pub mod Depths
+pub mod Exactness
+pub mod Leaves
+pub mod Measures
+pub mod Occurrences
+pub mod Steps
+pub mod Walks
+pub mod Writing
