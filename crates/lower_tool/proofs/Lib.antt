@@ -1,5 +1,3 @@
-pub mod Appending
-pub mod Built
 pub mod HeldLemmas
 pub mod Image
 pub mod KnownLemmas
@@ -9,6 +7,5 @@ pub mod SameEvents
 pub mod Shown
 pub mod Simulation
 pub mod Soundness
-pub mod Spelled
 pub mod TypedLowered
 pub mod WordLemmas

@@ -1,9 +1,7 @@
-pub mod Appends
 pub mod Calls
 pub mod Causes
 pub mod Constants
 pub mod Distinct
-pub mod Grammar1
 pub mod Headline
 pub mod Held
 pub mod Lowered

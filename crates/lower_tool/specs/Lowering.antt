@@ -4,7 +4,7 @@ use Rattle.wasm_ast.specs.declared.module.parts.Module.{Module}
 use Rattle.core1_ast.specs.Typing.{Typed1}
 use Rattle.core1_ast.specs.declared.module.parts.Module1.{Module1}
 use Rattle.read_new.specs.Spells.{SpellsCore}
-use Rattle.lower_tool.specs.Grammar1.{Spells1}
+use Rattle.core1_bytes.specs.Spells.{Spells1}
 use Rattle.lower_tool.specs.Headline.{Same}
 
 -- how many captured exceptions a lowered module has room for, where a command does not say

@@ -6,7 +6,7 @@ ghost use Rattle.lower_tool.specs.Lowering.{IsCoreFile, Lowers, default_captures
 mod code;
 mod module;
 
-use crate::writing::write_module;
+use core1_bytes::write1;
 use module::lower_core;
 use num_core::lists::Bytes;
 use read_new::{ReadFault, read};
@@ -48,6 +48,6 @@ pub fn lower_bytes(alloc: Global, bytes: &[u8]) -> Result<Bytes, LowerFault>
         Err(ReadFault::Memory(error)) => return Err(LowerFault::Memory(error)),
     };
     let output = lower_core(alloc, &source)?;
-    let written = write_module(alloc, &output)?;
+    let written = write1(alloc, &output)?;
     Ok(written)
 }

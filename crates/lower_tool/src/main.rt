@@ -9,7 +9,6 @@ pub mod sink;
 #[cfg(test)]
 mod tests;
 pub mod tool;
-mod writing;
 
 use files::DirFiles;
 use num_core::lists::{Text, Texts};

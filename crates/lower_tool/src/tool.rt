@@ -2,7 +2,7 @@
 
 ghost use Rattle.std.specs.Prelude.{◌≡◌, ◌≢◌, ℕ, ◌≤◌, List, ◌++◌, ◌⊎◌, ◌↔◌, IsTrue, IfSome, codes};
 ghost use Rattle.lower_tool.specs.Causes.{Rose};
-ghost use Rattle.lower_tool.specs.Grammar1.{Spells1};
+ghost use Rattle.core1_bytes.specs.Spells.{Spells1};
 ghost use Rattle.lower_tool.specs.Headline.{Same};
 ghost use Rattle.lower_tool.specs.Held.{Told, WhereTold};
 ghost use Rattle.lower_tool.specs.Statuses.{Prints, Lowered, CutShort, TakesWithinLimit, line};

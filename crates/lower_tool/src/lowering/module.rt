@@ -5,7 +5,6 @@ ghost use Rattle.std.specs.List.{AllByRecursion, flat_map};
 ghost use Rattle.core1_ast.specs.Typing.{Typed1};
 ghost use Rattle.read_new.specs.Core.{IsCore};
 ghost use Rattle.lower_tool.specs.Constants.{HasFittingConstants};
-ghost use Rattle.lower_tool.specs.Grammar1.{IsBuiltModule1};
 ghost use Rattle.lower_tool.specs.Headline.{Same};
 ghost use Rattle.lower_tool.specs.Room.{HasRoom};
 ghost use Rattle.lower_tool.specs.Mapping.{flattened};
@@ -23,7 +22,6 @@ use wasm_ast::module::{Body, Export, ExportDesc, FuncType, Module, Ty};
 pub fn lower_core(alloc: Global, source: &Module) -> Result<Module1, AllocError>
     requires { IsCore source.now }
     ensures typed { IfOk result Typed1 }
-    ensures built { IfOk result IsBuiltModule1 }
     ensures same { IfOk result (λ out. (captures : ℕ) → Same 4 16 source.now out captures) }
 {
     let out = lower_module(alloc, source)?;

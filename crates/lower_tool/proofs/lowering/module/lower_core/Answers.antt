@@ -2,8 +2,6 @@ use Rattle.std.proofs.Common.{subst, sym}
 use Rattle.core1_ast.specs.Typing.{Typed1}
 use Rattle.lower_tool.specs.Headline.{Same}
 use Rattle.lower_tool.specs.Room.{HasRoom}
-use Rattle.lower_tool.specs.Grammar1.{IsBuiltModule1}
-use Rattle.lower_tool.proofs.Built.{built_lowered}
 use Rattle.lower_tool.proofs.SameEvents.{same_lowered}
 use Rattle.lower_tool.proofs.TypedLowered.{typed_lowered, short_lowered, sound_core, core_constants}
 use Rattle.lower_tool.proofs.lowering.module.lower_core.Goals as goal
@@ -12,9 +10,6 @@ pub returns-then-has_room-clause-typed : goal.returns-then-has_room-clause-typed
 returns-then-has_room-clause-typed c =
     let room = subst HasRoom c.in_ok-out.ensures.lowered (c.has_room.ensures c.if-has_room.true) in
     subst Typed1 (sym c.in_ok-out.ensures.lowered) (typed_lowered c.args.source.now c.requires (short_lowered c.args.source.now c.requires room))
-
-pub returns-then-has_room-clause-built : goal.returns-then-has_room-clause-built
-returns-then-has_room-clause-built c = subst IsBuiltModule1 (sym c.in_ok-out.ensures.lowered) (built_lowered c.args.source.now)
 
 pub returns-then-has_room-clause-same : goal.returns-then-has_room-clause-same
 returns-then-has_room-clause-same c = λ captures.

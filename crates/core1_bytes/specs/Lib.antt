@@ -1,0 +1,17 @@
+pub mod Choice
+pub mod Types
+pub mod Operators
+pub mod Instructions
+pub mod Opcodes
+pub mod Parts
+pub mod Bodies
+pub mod Nesting
+pub mod Spells
+pub mod Appends
+pub mod Limits
+pub mod Walks
+pub mod Numbers
+pub mod Made
+pub mod Faults
+pub mod Reads
+pub mod Steps

@@ -1,0 +1,147 @@
+// The bodies of functions, as the binary format has them.
+
+ghost use Rattle.std.specs.Prelude.{◌≡◌, ◌<◌, ◌^◌, ◌++◌, ◌↔◌, IsTrue, IfOk, OnOk, option_map, replicate};
+ghost use Rattle.grammar_kit.specs.Form.{vector};
+ghost use Rattle.grammar_kit.specs.Gives.{Gives};
+ghost use Rattle.grammar_kit.specs.Sequences.{sized, whole};
+ghost use Rattle.wasm_frame.specs.Leb128.{u32};
+ghost use Rattle.core1_bytes.specs.Bodies.{local_group, locals_count, locals_of, body, sizes_of};
+
+use super::code::{measure_expr, read_expr};
+use super::types::split_value_type;
+use crate::body::LocalGroup1;
+use core1_ast::module::{Body1, Ty1};
+use grammar_kit::{Entry, FormError, Measure, measure_many, read_many};
+use sqlite_items::Items;
+use std::alloc::{AllocError, Global};
+use wasm_frame::names::split_byte_vector;
+use wasm_frame::numbers::split_u32;
+
+/// A group of locals as an entry.
+struct GroupEntry;
+
+impl Entry for GroupEntry {
+    type Value = LocalGroup1;
+
+    ghost form = { local_group };
+
+    #[tactic(auto, unfolding(crate::specs::Bodies::local_group))]
+    fn entry(_alloc: Global, bytes: &[u8]) -> Result<(LocalGroup1, &[u8]), FormError> {
+        let (count, rest) = split_u32(bytes).ok_or(FormError::Malformed)?;
+        let (ty, rest) = split_value_type(rest).ok_or(FormError::Malformed)?;
+        Ok((LocalGroup1 { count, ty }, rest))
+    }
+}
+
+/// How many locals a group declares.
+struct GroupMeasure;
+
+impl Measure for GroupMeasure {
+    type Value = LocalGroup1;
+
+    ghost form = { local_group };
+
+    ghost size = { λ g. g.count };
+
+    fn measure(alloc: Global, bytes: &[u8]) -> Result<(u32, &[u8]), FormError> {
+        let (group, rest) = GroupEntry::entry(alloc, bytes)?;
+        Ok((group.count, rest))
+    }
+}
+
+/// How large a body is.
+#[derive(Clone, Copy, Debug, PartialEq, Eq)]
+pub struct BodySizes {
+    /// How many locals it declares.
+    pub locals: u64,
+    /// How deeply instructions nest in it.
+    pub nesting: u32,
+}
+
+/// How large the body is that all of the bytes spell. Neither locals nor instructions are kept.
+#[tactic(auto, unfolding(crate::specs::Bodies::body, crate::specs::Bodies::body_with))]
+pub fn measure_body(alloc: Global, text: &[u8]) -> Result<BodySizes, FormError>
+    ensures { Gives (λ s. (s.locals, s.nesting)) result (option_map sizes_of (whole (body.read text.now))) }
+{
+    let (count, rest) = split_u32(text).ok_or(FormError::Malformed)?;
+    let (extent, rest) = measure_many::<GroupMeasure>(alloc, count, rest)?;
+    if extent.total > u64::from(u32::MAX) {
+        return Err(FormError::Malformed);
+    }
+    let (nesting, rest) = measure_expr(alloc, rest)?;
+    if !rest.is_empty() {
+        return Err(FormError::Malformed);
+    }
+    Ok(BodySizes {
+        locals: extent.total,
+        nesting,
+    })
+}
+
+/// Appends the locals of a group.
+fn push_locals(locals: &mut Items<Ty1>, group: LocalGroup1) -> Result<(), AllocError>
+    ensures { OnOk result (locals.new ≡ locals.old ++ replicate group.count group.ty) }
+{
+    for _ in 0..group.count {
+        locals.push(group.ty)?;
+    }
+    Ok(())
+}
+
+/// Each local of the groups.
+fn locals_of(alloc: Global, groups: &[LocalGroup1]) -> Result<Items<Ty1>, AllocError>
+    ensures { IfOk result (λ locals. locals ≡ locals_of groups.now) }
+{
+    let mut locals = Items::new(alloc);
+    for group in groups {
+        push_locals(&mut locals, *group)?;
+    }
+    Ok(locals)
+}
+
+/// Whether the groups declare fewer than 2^32 locals in all.
+fn are_countable(groups: &[LocalGroup1]) -> bool
+    ensures { IsTrue result ↔ (locals_count groups.now < 2 ^ 32) }
+{
+    let mut total: u32 = 0;
+    for group in groups {
+        match total.checked_add(group.count) {
+            Some(sum) => total = sum,
+            None => return false,
+        }
+    }
+    true
+}
+
+/// The body that all of the bytes spell.
+#[tactic(auto, unfolding(crate::specs::Bodies::body, crate::specs::Bodies::body_with))]
+fn read_body(alloc: Global, text: &[u8]) -> Result<Body1, FormError>
+    ensures { Gives (λ b. b) result (whole (body.read text.now)) }
+{
+    let (count, rest) = split_u32(text).ok_or(FormError::Malformed)?;
+    let (groups, rest) = read_many::<GroupEntry>(alloc, count, rest)?;
+    if !are_countable(groups.as_slice()) {
+        return Err(FormError::Malformed);
+    }
+    let (code, rest) = read_expr(alloc, rest)?;
+    if !rest.is_empty() {
+        return Err(FormError::Malformed);
+    }
+    let locals = locals_of(alloc, groups.as_slice())?;
+    Ok(Body1 { locals, code })
+}
+
+/// An entry of the code section: a body behind its size.
+pub struct BodyEntry;
+
+impl Entry for BodyEntry {
+    type Value = Body1;
+
+    ghost form = { sized u32 body };
+
+    fn entry(alloc: Global, bytes: &[u8]) -> Result<(Body1, &[u8]), FormError> {
+        let (text, rest) = split_byte_vector(bytes).ok_or(FormError::Malformed)?;
+        let body = read_body(alloc, text)?;
+        Ok((body, rest))
+    }
+}
