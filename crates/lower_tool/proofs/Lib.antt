@@ -4,6 +4,7 @@ pub mod KnownLemmas
 pub mod MemoryLemmas
 pub mod PairLemmas
 pub mod SameEvents
+pub mod Refusals
 pub mod Shown
 pub mod Simulation
 pub mod Soundness

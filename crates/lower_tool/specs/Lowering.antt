@@ -3,7 +3,7 @@ use Rattle.std.specs.Prelude.{ℕ, List}
 use Rattle.wasm_ast.specs.declared.module.parts.Module.{Module}
 use Rattle.core1_ast.specs.Typing.{Typed1}
 use Rattle.core1_ast.specs.declared.module.parts.Module1.{Module1}
-use Rattle.read_new.specs.Spells.{SpellsCore}
+use Rattle.read_new.specs.CoreFiles.{SpellsCore}
 use Rattle.core1_bytes.specs.Spells.{Spells1}
 use Rattle.lower_tool.specs.Headline.{Same}
 

@@ -1,24 +1,16 @@
 -- Why a command stops before it writes, and what is printed then.
-use Rattle.std.specs.Prelude.{ℕ, ◌<◌, ◌≤◌, List, ◌++◌, length, codes, ⊤}
-use Rattle.lower_tool.specs.declared.tool.stop.Refusal.{Refusal}
-use Rattle.lower_tool.specs.declared.tool.stop.Refusal.TheVariants.{TooLarge, NotBuiltCore}
+use Rattle.std.specs.Prelude.{ℕ, List, ◌++◌, codes, ⊤}
+use Rattle.wasm_frame.specs.declared.sections.FrameFault.TheVariants as frame
+use Rattle.read_new.specs.declared.fault.ReadFault.{ReadFault}
+use Rattle.read_new.specs.declared.fault.ReadFault.TheVariants as fault
+use Rattle.lower_tool.specs.declared.verdict.Refusal.{Refusal}
+use Rattle.lower_tool.specs.declared.verdict.Refusal.TheVariants as verdict
 use Rattle.lower_tool.specs.declared.tool.stop.Stop.{Stop}
 use Rattle.lower_tool.specs.declared.tool.stop.Stop.TheVariants.{Refused, CannotRead, OutOfMemory}
 use Rattle.lower_tool.specs.declared.lowering.LowerFault.{LowerFault}
-use Rattle.lower_tool.specs.declared.lowering.LowerFault.TheVariants.{NotCore, Memory}
-use Rattle.lower_tool.specs.Lowering.{IsCoreFile}
+use Rattle.lower_tool.specs.declared.lowering.LowerFault.TheVariants as lower
 use Rattle.lower_tool.specs.Statuses.{line}
-use Rattle.lower_tool.specs.Verdict.{file_limit}
-
--- the text of a refusal
-abbrev pub text_of : Refusal → List ℕ
-text_of TooLarge = codes "too large"
-text_of NotBuiltCore = codes "outside: not built core"
-
--- the file is refused so
-abbrev pub Refuses : Refusal → List ℕ → Type 0
-Refuses TooLarge bytes = file_limit < length bytes
-Refuses NotBuiltCore bytes = (length bytes ≤ file_limit) × (¬ IsCoreFile bytes)
+use Rattle.lower_tool.specs.Verdict.{text_of}
 
 -- P holds of the refusal, where it is one
 abbrev pub IfRefused : Stop → (Refusal → Type 0) → Type 0
@@ -26,10 +18,27 @@ IfRefused (Refused refusal) P = P refusal
 IfRefused CannotRead P = ⊤
 IfRefused OutOfMemory P = ⊤
 
+-- the same of bytes that were not lowered
+abbrev pub IfNotLowered : LowerFault → (Refusal → Type 0) → Type 0
+IfNotLowered (lower.Refused refusal) P = P refusal
+IfNotLowered (lower.Memory error) P = ⊤
+
+-- why bytes that were not read are not lowered
+abbrev pub fault_of : ReadFault → LowerFault
+fault_of (fault.Frame frame.BadHead) = lower.Refused verdict.BadHead
+fault_of (fault.Frame frame.BadSize) = lower.Refused verdict.BadSize
+fault_of (fault.Frame frame.BadOrder) = lower.Refused verdict.BadOrder
+fault_of (fault.Frame (frame.Memory error)) = lower.Memory error
+fault_of (fault.Section i) = lower.Refused (verdict.Section i)
+fault_of (fault.Body f) = lower.Refused (verdict.Body f)
+fault_of fault.Counts = lower.Refused verdict.Counts
+fault_of (fault.Limit kind) = lower.Refused (verdict.Limit kind)
+fault_of (fault.Memory error) = lower.Memory error
+
 -- what a fault of the lowering stops a command for
 abbrev pub stop_of : LowerFault → Stop
-stop_of NotCore = Refused NotBuiltCore
-stop_of (Memory error) = OutOfMemory
+stop_of (lower.Refused refusal) = Refused refusal
+stop_of (lower.Memory error) = OutOfMemory
 
 -- what is printed
 abbrev pub line_of : Stop → List ℕ

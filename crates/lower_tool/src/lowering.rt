@@ -1,24 +1,28 @@
 // From the bytes of a core module of 3.0 to the bytes of a module of 1.0.
 
-ghost use Rattle.std.specs.Prelude.{◌≡◌, ◌≤◌, length, IfOk, OnOk, IsErrOf};
+ghost use Rattle.std.specs.Prelude.{◌≡◌, ◌≤◌, length, IfOk, IfErr, OnOk};
 ghost use Rattle.lower_tool.specs.Lowering.{IsCoreFile, Lowers, default_captures};
+ghost use Rattle.lower_tool.specs.Stops.{IfNotLowered, fault_of};
+ghost use Rattle.lower_tool.specs.Verdict.{Refuses};
 
 mod code;
 mod module;
 
+use crate::verdict::Refusal;
 use core1_bytes::write1;
 use module::lower_core;
 use num_core::lists::Bytes;
-use read_new::{ReadFault, read};
+use read_new::{ReadFault, is_core_file, read};
 use std::alloc::{AllocError, Global};
 use thiserror::Error;
+use wasm_frame::sections::FrameFault;
 
 /// Why bytes were not lowered.
 #[derive(Debug, Drop, Error)]
 pub enum LowerFault {
-    /// They are not a module that the lowering takes.
-    #[error("not a core module")]
-    NotCore,
+    /// The verdict on them is not fine.
+    #[error("refused")]
+    Refused(Refusal),
     /// No memory was found.
     #[error("out of memory")]
     Memory(AllocError),
@@ -34,19 +38,38 @@ impl From<AllocError> for LowerFault {
     }
 }
 
+impl From<ReadFault> for LowerFault {
+    ghost from_gives = { λ error fault. fault ≡ fault_of error };
+
+    fn from(error: ReadFault) -> LowerFault {
+        match error {
+            ReadFault::Frame(FrameFault::BadHead) => LowerFault::Refused(Refusal::BadHead),
+            ReadFault::Frame(FrameFault::BadSize) => LowerFault::Refused(Refusal::BadSize),
+            ReadFault::Frame(FrameFault::BadOrder) => LowerFault::Refused(Refusal::BadOrder),
+            ReadFault::Section(place) => LowerFault::Refused(Refusal::Section(place)),
+            ReadFault::Body(place) => LowerFault::Refused(Refusal::Body(place)),
+            ReadFault::Counts => LowerFault::Refused(Refusal::Counts),
+            ReadFault::Limit(kind) => LowerFault::Refused(Refusal::Limit(kind)),
+            ReadFault::Frame(FrameFault::Memory(error)) | ReadFault::Memory(error) => {
+                LowerFault::Memory(error)
+            }
+        }
+    }
+}
+
 #[tactic(auto, unfolding(crate::specs::Lowering::IsCoreFile))]
-/// The lowered module. It takes the bytes of a core module, and refuses all others.
+/// The lowered module. It takes the bytes of a core module, and refuses all others by the first step of the verdict
+/// that holds.
 pub fn lower_bytes(alloc: Global, bytes: &[u8]) -> Result<Bytes, LowerFault>
     requires { length bytes.now ≤ 67108864 }
     ensures lowered { IfOk result (λ out. Lowers default_captures bytes.now out) }
     ensures core { OnOk result (IsCoreFile bytes.now) }
-    ensures refused { IsErrOf result LowerFault.NotCore → ¬ IsCoreFile bytes.now }
+    ensures refused { IfErr result (λ fault. IfNotLowered fault (λ refusal. Refuses refusal bytes.now)) }
 {
-    let source = match read(alloc, bytes) {
-        Ok(source) => source,
-        Err(ReadFault::NotCore) => return Err(LowerFault::NotCore),
-        Err(ReadFault::Memory(error)) => return Err(LowerFault::Memory(error)),
-    };
+    let source = read(alloc, bytes)?;
+    if !is_core_file(alloc, bytes, &source)? {
+        return Err(LowerFault::Refused(Refusal::NotBuiltCore));
+    }
     let output = lower_core(alloc, &source)?;
     let written = write1(alloc, &output)?;
     Ok(written)

@@ -9,6 +9,7 @@ pub mod sink;
 #[cfg(test)]
 mod tests;
 pub mod tool;
+pub mod verdict;
 
 use files::DirFiles;
 use num_core::lists::{Text, Texts};

@@ -155,22 +155,91 @@ fn one_fault_at_a_time(rt: HostRuntime) -> Result<(), Fail> {
     Ok(())
 }
 
-#[test]
-fn refused_files_leave_no_output(rt: HostRuntime) -> Result<(), Fail> {
+/// Lowers a file that is refused with this line, and leaves no output.
+fn check_refused(
+    rt: &(impl Abort + AllocGlobal),
+    bytes: Vec<u8>,
+    printed: &str,
+) -> Result<(), Fail> {
     let alloc = rt.alloc();
-    // A byte of the example, and what stands in its place: i64.extend8_s, a section out of order, an i64 result.
-    for (place, byte) in [(34, 0xC2), (16, 0x04), (15, 0x7E)] {
+    let files = one_file(alloc, bytes)?;
+    let mut files = MemFiles::new(alloc, files, 16, failing(alloc, 0, 0, 0, 0)?);
+    let outcome = Outcome {
+        status: 1,
+        printed,
+        written: None,
+    };
+    check(rt, &mut files, outcome)
+}
+
+#[test]
+fn one_changed_byte_of_the_example(rt: HostRuntime) -> Result<(), Fail> {
+    let alloc = rt.alloc();
+    // The place of a byte, and what stands there: another head, a section twice, a section of another kind, the size of
+    // a body that then ends too late, a body without its end, a result of type i64, and i64.extend8_s.
+    let rows: [(usize, u8, &str); 7] = [
+        (4, 0x02, "refused: frame: bad head\n"),
+        (16, 0x01, "refused: frame: bad order\n"),
+        (16, 0x04, "refused: section 1\n"),
+        (30, 0x06, "refused: section 3\n"),
+        (35, 0x01, "refused: body 0\n"),
+        (15, 0x7E, "refused: outside: not built core\n"),
+        (34, 0xC2, "refused: outside: not built core\n"),
+    ];
+    for (place, byte, printed) in rows {
         let mut bytes = EXTEND;
         bytes[place] = byte;
-        let mut files = example(alloc, &bytes, failing(alloc, 0, 0, 0, 0)?)?;
-        let outcome = Outcome {
-            status: 1,
-            printed: "refused: outside: not built core\n",
-            written: None,
-        };
-        check(&rt, &mut files, outcome)?;
+        check_refused(&rt, bytes.to_vec(alloc)?, printed)?;
+    }
+    check_refused(
+        &rt,
+        EXTEND[..33].to_vec(alloc)?,
+        "refused: frame: bad size\n",
+    )
+}
+
+#[test]
+fn sections_behind_the_head(rt: HostRuntime) -> Result<(), Fail> {
+    let alloc = rt.alloc();
+    // No section, a count of 5 and of 6 bytes, a function without a body, and a bad section behind ten others.
+    let rows: [(&[u8], &str); 5] = [
+        (&[], "refused: outside: not built core\n"),
+        (
+            &[0x01, 0x05, 0x80, 0x80, 0x80, 0x80, 0x00],
+            "refused: outside: not built core\n",
+        ),
+        (
+            &[0x01, 0x06, 0x80, 0x80, 0x80, 0x80, 0x80, 0x00],
+            "refused: section 0\n",
+        ),
+        (
+            &[0x01, 0x04, 0x01, 0x60, 0x00, 0x00, 0x03, 0x02, 0x01, 0x00],
+            "refused: counts\n",
+        ),
+        (
+            &[
+                0, 1, 0, 0, 1, 0, 0, 1, 0, 0, 1, 0, 0, 1, 0, 0, 1, 0, 0, 1, 0, 0, 1, 0, 0, 1, 0, 0,
+                1, 0, 1, 1, 1,
+            ],
+            "refused: section 10\n",
+        ),
+    ];
+    for (sections, printed) in rows {
+        let mut bytes = EXTEND[..8].to_vec(alloc)?;
+        bytes.extend_from_slice(sections)?;
+        check_refused(&rt, bytes, printed)?;
     }
     Ok(())
+}
+
+#[test]
+fn one_memory_past_the_limit(rt: HostRuntime) -> Result<(), Fail> {
+    let alloc = rt.alloc();
+    // A memory section of 203 bytes, with 101 memories of no pages and no maximum.
+    let mut bytes = EXTEND[..8].to_vec(alloc)?;
+    bytes.extend_from_slice(&[0x05, 0xCB, 0x01, 0x65])?;
+    bytes.extend_from_slice(&[0; 202])?;
+    check_refused(&rt, bytes, "refused: limit: memories\n")
 }
 
 #[test]

@@ -11,11 +11,12 @@ ghost use Rattle.lower_tool.specs.Verdict.{IsFine, IsRefusal};
 ghost use Rattle.lower_tool.specs.Words.{IsCommand, ByLower, IfLower};
 ghost use Rattle.core1_ast.specs.Typing.{Typed1};
 ghost use Rattle.core1_ast.specs.declared.module.parts.Module1.{Module1};
-ghost use Rattle.read_new.specs.Spells.{SpellsCore};
+ghost use Rattle.read_new.specs.CoreFiles.{SpellsCore};
 ghost use Rattle.wasm_ast.specs.declared.module.parts.Module.{Module};
 
 mod command;
 mod input;
+mod line;
 mod output;
 mod prepare;
 mod print;
@@ -30,7 +31,7 @@ use output::write_file;
 use prepare::prepare;
 use print::print;
 use std::alloc::Global;
-pub use stop::{Refusal, Stop};
+pub use stop::Stop;
 
 /// Runs the command that the words are, and gives its status. The one command is `lower IN OUT`.
 pub fn tool<F: Files, S: Sink>(alloc: Global, words: &Texts, files: &mut F, out: &mut S) -> u8
@@ -98,6 +99,6 @@ pub fn report<S: Sink>(stop: Stop, out: &mut S) -> u8
     ensures prints { Prints (S.written out.old) (S.written out.new) (S.faults out.old) (S.faults out.new) (line_of stop) }
     ensures later { S.faults out.old ≤ S.faults out.new }
 {
-    print(stop.line(), out);
+    print(stop.line().as_str().as_bytes(), out);
     stop.status()
 }

@@ -1,6 +1,11 @@
+pub mod Agreement
 pub mod Arrows
-pub mod Bodies
-pub mod CoreModules
-pub mod Expressions
+pub mod CoreFiles
+pub mod Depths
 pub mod Forms
+pub mod Imports
+pub mod Measured
 pub mod Modules
+pub mod OneAnswer
+pub mod Passed
+pub mod Texts

@@ -1,105 +1,132 @@
--- One byte string spells one module at most.
-use Rattle.std.proofs.Common.{◌≡◌, ℕ, List, [], ◌∷◌, map, Option, Some, None, refl, sym, ap, subst, ◌∙◌}
-use Rattle.std.specs.Prelude.{MatchOption}
-use Rattle.wasm_ast.specs.declared.module.parts.Module.{Module}
-use Rattle.wasm_ast.specs.declared.module.parts.Import.{Import}
-use Rattle.wasm_ast.specs.declared.module.parts.Table.{Table}
-use Rattle.wasm_ast.specs.declared.module.parts.Global.{Global}
-use Rattle.wasm_ast.specs.declared.module.parts.Export.{Export}
-use Rattle.wasm_ast.specs.declared.module.parts.Element.{Element}
-use Rattle.wasm_ast.specs.declared.module.parts.Segment.{Segment}
-use Rattle.wasm_ast.specs.declared.module.ty.Limits.{Limits}
-use Rattle.wasm_ast.specs.declared.module.ty.FuncType.{FuncType}
+-- A file whose sections are in their grammar: the module of its payloads, and what its bodies say of it.
+use Rattle.std.proofs.Common.{◌≡◌, ℕ, zero, suc, List, [], ◌∷◌, length, Bool, false, Option, Some, None, refl, sym, ap, subst, ◌∙◌, arith}
+use Rattle.std.specs.Prelude.{MatchOption, IfSome, option_map, unwrap_or}
+use Rattle.std.specs.List.{AllByRecursion, list_any}
 use Rattle.wasm_ast.specs.declared.module.code.Body.{Body}
-use Rattle.grammar_kit.specs.Form.{Form}
-use Rattle.grammar_kit.specs.Exact.{Exact}
-use Rattle.grammar_kit.proofs.Combinators.{exact_rules}
-use Rattle.grammar_kit.proofs.Consequences.{one_value}
+use Rattle.grammar_kit.specs.Measures.{greatest}
+use Rattle.grammar_kit.proofs.Sequences.{reads_whole}
 use Rattle.wasm_frame.specs.declared.sections.Version.TheVariants.{Three}
-use Rattle.wasm_frame.specs.Frame.{Part, Whole}
-use Rattle.wasm_frame.proofs.Frames.{one_frame}
-use Rattle.wasm_frame.proofs.Spelling.{exact_u32}
-use Rattle.read_new.specs.Parts.{type_section, func_section, export_section, code_section}
-use Rattle.read_new.specs.Bodies.{declared_body, body_of}
-use Rattle.read_new.specs.Bare.{IsBare}
-use Rattle.read_new.specs.Spells.{payload_of, Content, Each, Spells}
-use Rattle.read_new.proofs.Forms.{exact_func_type, exact_export, exact_code_section, exact_declared_body}
+use Rattle.wasm_frame.specs.Frame.{Part, Frame, Whole}
+use Rattle.wasm_frame.specs.Leb128.{u32}
+use Rattle.wasm_frame.specs.Payloads.{payload_of, Content, IsSpelled, IsRead, value, Each, FirstWithout}
+use Rattle.wasm_frame.proofs.Contents.{value_content, fact_of_payload, spelled_of_read, read_of_spelled}
+use Rattle.wasm_frame.proofs.SizedItems.{vector_sized}
+use Rattle.code_new.specs.Code.{depths, names_data}
+use Rattle.read_new.specs.declared.bodies.BodyExtent.{BodyExtent}
+use Rattle.read_new.specs.Bodies.{body, sizes_of}
+use Rattle.read_new.specs.Made.{made, body_section, IsExtentOf}
+use Rattle.read_new.specs.Parts.{type_section, import_section, func_section, table_section, memory_section, tag_section, global_section, export_section, start_section, element_section, data_count_section, code_section, data_section}
+use Rattle.read_new.specs.Reads.{IsBadBody}
+use Rattle.read_new.specs.Spells.{InGrammar, IsPart, Grammar}
+use Rattle.read_new.specs.Walks.{text_sizes, text_locals, text_nesting, text_names_data, IsExtent}
+use Rattle.read_new.proofs.Forms.{exact_type_section, exact_import_section, exact_func_section, exact_table_section, exact_memory_section, exact_tag_section, exact_global_section, exact_export_section, exact_start_section, exact_element_section, exact_data_count_section, exact_code_section, exact_data_section, exact_body, exact_body_section}
 
-pub exact_type_section : Exact type_section
-exact_type_section = search (exact_rules, exact_u32, exact_func_type) depth 12
+-- the bodies of texts that are read
+bodies_of : (texts : List (List ℕ)) → AllByRecursion (IsRead body) texts → (codes : List Body) × Each body.text texts codes
+bodies_of [] all = ([], tt)
+bodies_of (t ∷ texts) all =
+    let one = spelled_of_read body exact_body t all.0 in
+    let others = bodies_of texts all.1 in
+    (one.0 ∷ others.0, (one.1, others.1))
 
-pub exact_func_section : Exact func_section
-exact_func_section = search (exact_rules, exact_u32) depth 12
+-- the sizes of texts are those of the bodies that they spell
+module _ (t : List ℕ) (b : Body) (h : body.text t b) where
+  same_sizes : text_sizes t ≡ sizes_of b
+  same_sizes = ap (λ o. unwrap_or (option_map sizes_of o) (0, 0, false)) (reads_whole body exact_body t b h)
 
-pub exact_export_section : Exact export_section
-exact_export_section = search (exact_rules, exact_u32, exact_export) depth 12
+same_locals : (texts : List (List ℕ)) (codes : List Body) → Each body.text texts codes → greatest text_locals texts ≡ greatest (λ b. length b.locals) codes
+same_locals [] [] each = refl
+same_locals [] (b ∷ codes) each = absurd each
+same_locals (t ∷ texts) [] each = absurd each
+same_locals (t ∷ texts) (b ∷ codes) each = omega (arith, ap (λ (s : ℕ × ℕ × Bool). s.0) (same_sizes t b each.0), same_locals texts codes each.1)
 
-one_entries : {X : Type 0} (f : Form X) (exact : Exact f) (o : Option (List ℕ)) (none : X) (xs ys : X) → MatchOption o (xs ≡ none) (λ p. f.text p xs) → MatchOption o (ys ≡ none) (λ p. f.text p ys) → xs ≡ ys
-one_entries f exact None none xs ys h k = h ∙ sym k
-one_entries f exact (Some p) none xs ys h k = one_value f exact p xs ys h k
+same_nesting : (texts : List (List ℕ)) (codes : List Body) → Each body.text texts codes → greatest text_nesting texts ≡ greatest (λ b. depths b.code) codes
+same_nesting [] [] each = refl
+same_nesting [] (b ∷ codes) each = absurd each
+same_nesting (t ∷ texts) [] each = absurd each
+same_nesting (t ∷ texts) (b ∷ codes) each = omega (arith, ap (λ (s : ℕ × ℕ × Bool). s.1) (same_sizes t b each.0), same_nesting texts codes each.1)
 
-one_content : {X : Type 0} (id : ℕ) (f : Form (List X)) → Exact f → (parts others : List Part) (xs ys : List X) → parts ≡ others → Content id f parts xs → Content id f others ys → xs ≡ ys
-one_content id f exact parts others xs ys same h k =
-    one_entries f exact (payload_of id parts) [] xs ys h (subst (λ (ps : List Part). Content id f ps ys) (sym same) k)
+same_count : (texts : List (List ℕ)) (codes : List Body) → Each body.text texts codes → length texts ≡ length codes
+same_count [] [] each = refl
+same_count [] (b ∷ codes) each = absurd each
+same_count (t ∷ texts) [] each = absurd each
+same_count (t ∷ texts) (b ∷ codes) each = ap suc (same_count texts codes each.1)
 
-each_one : {X : Type 0} (f : Form X) (exact : Exact f) (texts : List (List ℕ)) (xs ys : List X) → Each f.text texts xs → Each f.text texts ys → xs ≡ ys
-each_one f exact [] [] [] h k = refl
-each_one f exact [] (x ∷ xs) ys h k = absurd h
-each_one f exact [] xs (y ∷ ys) h k = absurd k
-each_one f exact (t ∷ texts) [] ys h k = absurd h
-each_one f exact (t ∷ texts) (x ∷ xs) [] h k = absurd k
-each_one f exact (t ∷ texts) (x ∷ xs) (y ∷ ys) h k =
-    let item = one_value f exact t x y h.0 k.0 in
-    let items = each_one f exact texts xs ys h.1 k.1 in
-    cc
+same_names : (texts : List (List ℕ)) (codes : List Body) → Each body.text texts codes → list_any text_names_data texts ≡ list_any (λ b. names_data b.code) codes
+same_names [] [] each = refl
+same_names [] (b ∷ codes) each = absurd each
+same_names (t ∷ texts) [] each = absurd each
+same_names (t ∷ texts) (b ∷ codes) each = rw (ap (λ (s : ℕ × ℕ × Bool). s.2) (same_sizes t b each.0), same_names texts codes each.1) refl
 
--- a bare module is its types, functions, exports and bodies
-bare_module : List FuncType → List ℕ → List Export → List Body → Module
-bare_module types funcs exports codes = record {
-  types = types;
-  imports = [];
-  funcs = funcs;
-  tables = [];
-  memories = [];
-  tags = [];
-  globals = [];
-  exports = exports;
-  start = None;
-  elems = [];
-  data_count = None;
-  codes = codes;
-  datas = [];
-}
+-- bodies that are cut first are those that are read in one go
+codes_value : (payload : Option (List ℕ)) (texts : List (List ℕ)) (codes : List Body) → MatchOption payload (texts ≡ []) (λ p. code_section.text p texts) → Each body.text texts codes → value body_section [] payload ≡ codes
+codes_value None texts codes none each = none_left codes (subst (λ (ts : List (List ℕ)). Each body.text ts codes) none each)
+  where
+    none_left : (cs : List Body) → Each body.text [] cs → [] ≡ cs
+    none_left [] h = refl
+    none_left (c ∷ cs) h = absurd h
+codes_value (Some p) texts codes cut each = rw (reads_whole body_section exact_body_section p codes (vector_sized u32 body p texts codes cut each)) refl
 
-is_bare_module : (m : Module) → IsBare m → m ≡ bare_module m.types m.funcs m.exports m.codes
-unfolding bare_module
-is_bare_module m h =
-    ap (λ (x : List Import). record m { imports = x }) h.imports
-    ∙ ap (λ (x : List Table). record m { imports = []; tables = x }) h.tables
-    ∙ ap (λ (x : List Limits). record m { imports = []; tables = []; memories = x }) h.memories
-    ∙ ap (λ (x : List ℕ). record m { imports = []; tables = []; memories = []; tags = x }) h.tags
-    ∙ ap (λ (x : List Global). record m { imports = []; tables = []; memories = []; tags = []; globals = x }) h.globals
-    ∙ ap (λ (x : Option ℕ). record m { imports = []; tables = []; memories = []; tags = []; globals = []; start = x }) h.start
-    ∙ ap (λ (x : List Element). record (bare_module m.types m.funcs m.exports m.codes) { elems = x; data_count = m.data_count; datas = m.datas }) h.elems
-    ∙ ap (λ (x : Option ℕ). record (bare_module m.types m.funcs m.exports m.codes) { data_count = x; datas = m.datas }) h.data_count
-    ∙ ap (λ (x : List Segment). record (bare_module m.types m.funcs m.exports m.codes) { datas = x }) h.datas
+-- the first text that is not read is the first that spells nothing
+first_misspelled : (texts : List (List ℕ)) (f : ℕ) → FirstWithout (IsRead body) texts f → FirstWithout (IsSpelled body) texts f
+first_misspelled [] f h = absurd h
+first_misspelled (t ∷ texts) zero h = λ s. h (read_of_spelled body exact_body t s)
+first_misspelled (t ∷ texts) (suc f) h = (spelled_of_read body exact_body t h.0, first_misspelled texts f h.1)
 
-pub same_fields : (m o : Module) → IsBare m → IsBare o → m.types ≡ o.types → m.funcs ≡ o.funcs → m.exports ≡ o.exports → m.codes ≡ o.codes → m ≡ o
-same_fields m o bare also types funcs exports codes =
-    is_bare_module m bare
-    ∙ ap (λ (x : List FuncType). bare_module x m.funcs m.exports m.codes) types
-    ∙ ap (λ (x : List ℕ). bare_module o.types x m.exports m.codes) funcs
-    ∙ ap (λ (x : List Export). bare_module o.types o.funcs x m.codes) exports
-    ∙ ap (λ (x : List Body). bare_module o.types o.funcs o.exports x) codes
-    ∙ sym (is_bare_module o also)
+module _ (b : List ℕ) (parts : List Part) (frame : Frame Three b parts Whole) (all : AllByRecursion IsPart parts) where
+  fact : (id : ℕ) (p : List ℕ) → payload_of id parts ≡ Some p → InGrammar id p
+  fact id p e = fact_of_payload InGrammar id parts p all e
 
-pub one_module : (b : List ℕ) (m o : Module) → Spells b m → Spells b o → m ≡ o
-one_module b m o h k =
-    let parts = (one_frame Three b h.parts k.parts Whole Whole h.frame k.frame).0 in
-    let texts = one_content 10 code_section exact_code_section h.parts k.parts h.texts k.texts parts h.cut k.cut in
-    let bodies = each_one declared_body exact_declared_body h.texts h.bodies k.bodies h.spelled (subst (λ (ts : List (List ℕ)). Each declared_body.text ts k.bodies) (sym texts) k.spelled) in
-    same_fields m o h.bare k.bare
-    (one_content 1 type_section exact_type_section h.parts k.parts m.types o.types parts h.types k.types)
-    (one_content 3 func_section exact_func_section h.parts k.parts m.funcs o.funcs parts h.funcs k.funcs)
-    (one_content 7 export_section exact_export_section h.parts k.parts m.exports o.exports parts h.exports k.exports)
-    (h.codes ∙ ap (map body_of) bodies ∙ sym k.codes)
+  -- the texts of the bodies
+  abbrev pub texts : List (List ℕ)
+  texts = value code_section [] (payload_of 10 parts)
+
+  cut : Content 10 code_section [] parts texts
+  cut = value_content code_section exact_code_section [] 10 parts (fact 10)
+
+  -- the code section is cut into bodies, if there is one
+  pub is_cut : {A : Type 0} (now : A → List ℕ) (payload : Option A) → option_map now payload ≡ payload_of 10 parts → IfSome payload (λ p. IsRead code_section (now p))
+  is_cut now None e = tt
+  is_cut now (Some p) e = read_of_spelled code_section exact_code_section (now p) (fact 10 (now p) (sym e))
+
+  pub bad_body : (f : ℕ) → FirstWithout (IsRead body) texts f → IsBadBody b f
+  bad_body f h = (parts, texts, frame, all, cut, first_misspelled texts f h)
+
+  module _ (spelled : AllByRecursion (IsRead body) texts) where
+    bodies : (codes : List Body) × Each body.text texts codes
+    bodies = bodies_of texts spelled
+
+    codes_are : value body_section [] (payload_of 10 parts) ≡ bodies.0
+    codes_are = codes_value (payload_of 10 parts) texts bodies.0 cut bodies.1
+
+    pub grammar : Grammar b (made (λ id. payload_of id parts))
+    unfolding made
+    grammar = record {
+      parts = parts;
+      frame = frame;
+      within = all;
+      types = value_content type_section exact_type_section [] 1 parts (fact 1);
+      imports = value_content import_section exact_import_section [] 2 parts (fact 2);
+      funcs = value_content func_section exact_func_section [] 3 parts (fact 3);
+      tables = value_content table_section exact_table_section [] 4 parts (fact 4);
+      memories = value_content memory_section exact_memory_section [] 5 parts (fact 5);
+      tags = value_content tag_section exact_tag_section [] 13 parts (fact 13);
+      globals = value_content global_section exact_global_section [] 6 parts (fact 6);
+      exports = value_content export_section exact_export_section [] 7 parts (fact 7);
+      start = value_content start_section exact_start_section None 8 parts (fact 8);
+      elems = value_content element_section exact_element_section [] 9 parts (fact 9);
+      data_count = value_content data_count_section exact_data_count_section None 12 parts (fact 12);
+      datas = value_content data_section exact_data_section [] 11 parts (fact 11);
+      texts = texts;
+      cut = cut;
+      codes = rw codes_are bodies.1;
+    }
+
+    pub extent_of_codes : (e : BodyExtent) → IsExtent e texts → IsExtentOf e (made (λ id. payload_of id parts)).codes
+    unfolding made
+    extent_of_codes e h = rw codes_are (record {
+      count = h.count ∙ same_count texts bodies.0 bodies.1;
+      locals = h.locals ∙ same_locals texts bodies.0 bodies.1;
+      nesting = h.nesting ∙ same_nesting texts bodies.0 bodies.1;
+      names_data = h.names_data ∙ same_names texts bodies.0 bodies.1;
+    })

@@ -1,8 +1,15 @@
-pub mod Answers
 pub mod Bare
 pub mod Bodies
 pub mod Core
+pub mod CoreFiles
 pub mod Faults
+pub mod Limits
+pub mod Made
+pub mod Numbers
 pub mod Parts
+pub mod Reads
+pub mod Segments
 pub mod Spells
+pub mod Types
 pub mod Typing
+pub mod Walks

@@ -1,62 +1,67 @@
 -- Which bytes spell a module: chapter 5 of the standard, "Modules", in three levels: the frame of sections, the
 -- payload of each section, and the bodies of functions.
-use Rattle.std.specs.Prelude.{◌≡◌, ℕ, List, [], ◌∷◌, length, map, Option, Some, None, MatchOption, ◌==◌, if◌then◌else◌, IsTrue, ◌⊎◌}
-use Rattle.std.specs.List.{AllByRecursion, list_any}
+use Rattle.std.specs.Prelude.{◌≡◌, ℕ, List, [], length, None, MatchOption, ◌==◌, IsTrue}
+use Rattle.std.specs.List.{AllByRecursion}
 use Rattle.wasm_ast.specs.declared.module.parts.Module.{Module}
-use Rattle.grammar_kit.specs.Form.{Form}
+use Rattle.grammar_kit.specs.Form.{Chosen}
 use Rattle.wasm_frame.specs.declared.sections.Version.TheVariants.{Three}
 use Rattle.wasm_frame.specs.Frame.{Part, Frame, Whole}
 use Rattle.wasm_frame.specs.Name.{IsCustom}
-use Rattle.read_new.specs.declared.parts.bodies.DeclaredBody.{DeclaredBody}
-use Rattle.read_new.specs.Parts.{type_section, func_section, export_section, code_section}
-use Rattle.read_new.specs.Bodies.{declared_body, body_of}
-use Rattle.read_new.specs.Bare.{IsBare}
-use Rattle.read_new.specs.Core.{IsCore}
+use Rattle.wasm_frame.specs.Payloads.{Content, IsSpelled, Each}
+use Rattle.read_new.specs.Parts.{type_section, import_section, func_section, table_section, memory_section, tag_section, global_section, export_section, start_section, element_section, data_count_section, code_section, data_section}
+use Rattle.code_new.specs.Code.{names_data}
+use Rattle.read_new.specs.Bodies.{body}
 
--- the payload of the section of an id, if there is one
-abbrev pub payload_of : ℕ → List Part → Option (List ℕ)
-payload_of id [] = None
-payload_of id (s ∷ more) = if s.id == id then Some s.payload else payload_of id more
+-- the payload of a section is in the grammar of its id. A custom section begins with a name, and of the code section
+-- this is the count and the cutting into bodies
+abbrev pub InGrammar : ℕ → List ℕ → Type 0
+InGrammar id payload =
+    Chosen (id == 0) (IsCustom payload)
+    (Chosen (id == 1) (IsSpelled type_section payload)
+    (Chosen (id == 2) (IsSpelled import_section payload)
+    (Chosen (id == 3) (IsSpelled func_section payload)
+    (Chosen (id == 4) (IsSpelled table_section payload)
+    (Chosen (id == 5) (IsSpelled memory_section payload)
+    (Chosen (id == 6) (IsSpelled global_section payload)
+    (Chosen (id == 7) (IsSpelled export_section payload)
+    (Chosen (id == 8) (IsSpelled start_section payload)
+    (Chosen (id == 9) (IsSpelled element_section payload)
+    (Chosen (id == 10) (IsSpelled code_section payload)
+    (Chosen (id == 11) (IsSpelled data_section payload)
+    (Chosen (id == 12) (IsSpelled data_count_section payload)
+    (Chosen (id == 13) (IsSpelled tag_section payload) ⊥)))))))))))))
 
--- the section of an id spells these entries. Where there is no such section, there are no entries
-abbrev pub Content : {X : Type 0} → ℕ → Form (List X) → List Part → List X → Type 0
-Content id f parts entries = MatchOption (payload_of id parts) (entries ≡ []) (λ payload. f.text payload entries)
+abbrev pub IsPart : Part → Type 0
+IsPart s = InGrammar s.id s.payload
 
--- a section that is read
-abbrev pub HasField : Part → Type 0
-HasField s = IsTrue (list_any (λ id. s.id == id) (1 ∷ (3 ∷ (7 ∷ (10 ∷ [])))))
-
--- "Custom Section": it stands beside the others, and begins with a name
-abbrev pub IsAside : Part → Type 0
-IsAside s = (s.id ≡ 0) × IsCustom s.payload
-
--- the items of two lists are related, each to the one at its place
-abbrev pub Each : {X Y : Type 0} → (X → Y → Type 0) → List X → List Y → Type 0
-Each R [] [] = Unit {0}
-Each R [] (y ∷ ys) = ⊥
-Each R (x ∷ xs) [] = ⊥
-Each R (x ∷ xs) (y ∷ ys) = R x y × Each R xs ys
-
--- the bytes spell the module. Custom sections add nothing to it, each function has a body, and of the sections that
--- are not read there is none
-pub record Spells (b : List ℕ) (m : Module) : Type 0 where
+-- the sections, the bodies that the code section is cut into, and what all of them spell. Custom sections add nothing
+pub record Grammar (b : List ℕ) (m : Module) : Type 0 where
   pub parts : List Part
   pub frame : Frame Three b parts Whole
-  pub fields : AllByRecursion (λ s. HasField s ⊎ IsAside s) parts
-  pub types : Content 1 type_section parts m.types
-  pub funcs : Content 3 func_section parts m.funcs
-  pub exports : Content 7 export_section parts m.exports
+  pub within : AllByRecursion IsPart parts
+  pub types : Content 1 type_section [] parts m.types
+  pub imports : Content 2 import_section [] parts m.imports
+  pub funcs : Content 3 func_section [] parts m.funcs
+  pub tables : Content 4 table_section [] parts m.tables
+  pub memories : Content 5 memory_section [] parts m.memories
+  pub tags : Content 13 tag_section [] parts m.tags
+  pub globals : Content 6 global_section [] parts m.globals
+  pub exports : Content 7 export_section [] parts m.exports
+  pub start : Content 8 start_section None parts m.start
+  pub elems : Content 9 element_section [] parts m.elems
+  pub data_count : Content 12 data_count_section None parts m.data_count
+  pub datas : Content 11 data_section [] parts m.datas
   pub texts : List (List ℕ)
-  pub cut : Content 10 code_section parts texts
-  pub bodies : List DeclaredBody
-  pub spelled : Each declared_body.text texts bodies
-  pub codes : m.codes ≡ map body_of bodies
-  pub counts : length m.funcs ≡ length m.codes
-  pub bare : IsBare m
+  pub cut : Content 10 code_section [] parts texts
+  pub codes : Each body.text texts m.codes
 
--- the bytes spell a core module, by four sections alone and with no group of locals
-pub record SpellsCore (b : List ℕ) (m : Module) : Type 0 where
-  pub spells : Spells b m
-  pub ids : map (λ s. s.id) spells.parts ≡ 1 ∷ (3 ∷ (7 ∷ (10 ∷ [])))
-  pub groups : AllByRecursion (λ body. body.groups ≡ []) spells.bodies
-  pub core : IsCore m
+-- the counts of a module agree: each function has a body, a data count is that of the data segments, and without one no
+-- body names a data segment
+pub record Agrees (m : Module) : Type 0 where
+  pub bodies : length m.funcs ≡ length m.codes
+  pub segments : MatchOption m.data_count (AllByRecursion (λ body. ¬ (IsTrue (names_data body.code))) m.codes) (λ n. n ≡ length m.datas)
+
+-- the bytes spell the module
+pub record Spells (b : List ℕ) (m : Module) : Type 0 where
+  pub grammar : Grammar b m
+  pub counts : Agrees m

@@ -1,19 +1,30 @@
-//! Reads modules of WebAssembly 3.0. They are core modules for now: one exported function over one i32 parameter.
+//! Reads modules of WebAssembly 3.0.
 //!
 //! `specs/Spells.antt` says which bytes spell a module, in three levels: the frame of sections, the payload of each
-//! section by the forms of `specs/Parts.antt`, and each body by those of `specs/Bodies.antt`. `specs/Typing.antt` has
-//! the rules by which code is typed, and `specs/Core.antt` says what a core module is. A reader in `parts` gives what
-//! its form reads, and `read` puts their answers together.
+//! section by the forms of `specs/Parts.antt`, and each body by those of `specs/Bodies.antt`. `specs/Limits.antt` has
+//! the limits, and `specs/Reads.antt` says what each answer means. A reader in `parts` gives what its form reads.
+//! `specs/Typing.antt` has the rules by which code is typed, and `specs/Core.antt` says what a core module is.
 #![tactic(auto)]
 
+mod bodies;
+mod building;
+mod core_file;
 mod core_module;
+mod counts;
 mod fault;
+mod kind;
 pub mod laws;
+mod numbers;
 mod parts;
+mod payload;
 mod reading;
+mod sections;
+mod sizes;
 mod typing;
 
+pub use core_file::is_core_file;
 pub use fault::ReadFault;
+pub use kind::Kind;
 pub use reading::read;
 pub use typing::is_typed;
 

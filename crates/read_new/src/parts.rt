@@ -1,12 +1,19 @@
-// The payloads of sections: what each entry of a section's vector is, by the form of its grammar.
+// The payloads of sections: what each entry of a section's vector is, by the form of its grammar, and how large it is.
 
 mod bodies;
-mod code;
 mod exports;
 mod funcs;
+mod globals;
+mod imports;
+mod segments;
+mod tables;
 mod types;
 
-pub use bodies::{BodyEntry, DeclaredBody, LocalGroup};
+pub use bodies::{BodyEntry, BodySizes, LocalGroup, TextMeasure, measure_body};
 pub use exports::ExportEntry;
 pub use funcs::FuncEntry;
-pub use types::TypeEntry;
+pub use globals::{GlobalEntry, GlobalMeasure};
+pub use imports::{FunctionImports, ImportEntry};
+pub use segments::{ElementEntry, ElementMeasure, SegmentEntry, SegmentMeasure};
+pub use tables::{LimitsEntry, TableEntry, TableMeasure, TagEntry};
+pub use types::{ParameterCounts, ResultCounts, TypeEntry};

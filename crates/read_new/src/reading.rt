@@ -1,136 +1,117 @@
-// Reads the bytes of a core module.
+// Reads the bytes of a module in passes: the frame, the grammar of each section, that of each body, the counts, the
+// limits, and only then the module is built.
 
-ghost use Rattle.std.specs.Prelude.{◌≡◌, ℕ, ◌≤◌, List, [], ◌∷◌, length, All, MatchOption, Some, None, IfOk, IsErrOf};
-ghost use Rattle.grammar_kit.specs.Form.{vector};
+ghost use Rattle.std.specs.Prelude.{◌≡◌, ◌≤◌, length, All, Result};
+ghost use Rattle.std.specs.List.{AllByRecursion};
 ghost use Rattle.wasm_ast.specs.declared.module.parts.Module.{Module};
 ghost use Rattle.wasm_frame.specs.declared.sections.Version.TheVariants.{Three};
 ghost use Rattle.wasm_frame.specs.Frame.{Frame, Whole, IsWithin, parts_of};
-ghost use Rattle.wasm_frame.specs.Leb128.{u32};
-ghost use Rattle.read_new.specs.declared.parts.bodies.DeclaredBody.{DeclaredBody};
-ghost use Rattle.read_new.specs.Bodies.{body_of};
-ghost use Rattle.grammar_kit.specs.Sequences.{whole};
-ghost use Rattle.read_new.specs.Spells.{SpellsCore};
-ghost use Rattle.read_new.specs.Answers.{Answers, core_parts};
+ghost use Rattle.wasm_frame.specs.Payloads.{payload_of};
+ghost use Rattle.read_new.specs.declared.fault.ReadFault.{ReadFault};
+ghost use Rattle.read_new.specs.Limits.{nesting};
+ghost use Rattle.read_new.specs.Made.{made, IsExtentOf};
+ghost use Rattle.read_new.specs.Numbers.{front_kinds, AreOf};
+ghost use Rattle.read_new.specs.Reads.{Reads, Tells, UnlessMemory};
+ghost use Rattle.read_new.specs.Spells.{IsPart, Grammar, Spells};
 
-use crate::core_module::is_core;
+use crate::bodies::{BodyExtent, Walk, measure_bodies};
+use crate::building::build;
+use crate::counts::agree;
 use crate::fault::ReadFault;
-use crate::parts::{BodyEntry, DeclaredBody, ExportEntry, FuncEntry, TypeEntry};
-use grammar_kit::{Entry, read_many};
-use sqlite_items::Items;
+use crate::numbers::{Numbers, first_in_front, first_passed};
+use crate::parts::{TagEntry, TypeEntry};
+use crate::payload::greatest_payload;
+use crate::sections::Payloads3;
+use crate::sizes::{entries_at, number_at, size_parts};
 use std::alloc::Global;
-use wasm_ast::lists::Types;
-use wasm_ast::module::{Body, Module};
-use wasm_frame::numbers::split_u32;
+use wasm_ast::module::Module;
+use wasm_frame::payloads::{first_misfit, payload_of};
 use wasm_frame::sections::{Section, Version, sections};
 
-/// The payloads of the sections of a core module.
-#[derive(Clone, Copy)]
-struct Payloads<'a> {
-    types: &'a [u8],
-    funcs: &'a [u8],
-    exports: &'a [u8],
-    codes: &'a [u8],
-}
-
-/// The core module that the bytes of a file spell. It takes one pass over the bytes, and copies no payload.
+/// The module of 3.0 that the bytes of a file spell ("Modules" of the standard, binary format). A file that spells none,
+/// or passes a limit, is refused by the first of these that holds: its frame is broken; a section is not in its
+/// grammar; a body is not; the counts disagree; a limit is passed. Nothing of a size that a limit bounds is built
+/// before that limit was tested. Time and memory are linear in the file, and nothing recurses on its contents.
 pub fn read(alloc: Global, b: &[u8]) -> Result<Module, ReadFault>
     requires { length b.now ≤ 67108864 }
-    ensures read { IfOk result (λ m. SpellsCore b.now m) }
-    ensures refused { IsErrOf result ReadFault.NotCore → (m : Module) → SpellsCore b.now m → ⊥ }
+    ensures tells { Tells b.now result }
+    ensures only { UnlessMemory result ((other : Result Module ReadFault) → Reads b.now other → other ≡ result) }
 {
-    let payloads = cut(alloc, b)?;
-    let types = part::<TypeEntry>(alloc, payloads.types)?;
-    let funcs = part::<FuncEntry>(alloc, payloads.funcs)?;
-    let exports = part::<ExportEntry>(alloc, payloads.exports)?;
-    let bodies = part::<BodyEntry>(alloc, payloads.codes)?;
-    let codes = core_codes(alloc, bodies)?;
-    let m = Module {
-        types,
-        imports: Items::new(alloc),
-        funcs,
-        tables: Items::new(alloc),
-        memories: Items::new(alloc),
-        tags: Items::new(alloc),
-        globals: Items::new(alloc),
-        exports,
-        start: None,
-        elems: Items::new(alloc),
-        data_count: None,
-        codes,
-        datas: Items::new(alloc),
-    };
-    if is_core(alloc, &m)? {
-        Ok(m)
-    } else {
-        Err(ReadFault::NotCore)
-    }
+    read_file(alloc, b)
 }
 
-/// The payloads of a file that has the sections of a core module and no others.
-fn cut(alloc: Global, b: &[u8]) -> Result<Payloads<'_>, ReadFault>
-    ensures { Answers result
-        (λ p. Frame Three b.now (core_parts p.types.now p.funcs.now p.exports.now p.codes.now) Whole)
-        ((types funcs exports codes : List ℕ) → Frame Three b.now (core_parts types funcs exports codes) Whole → ⊥) }
+fn read_file(alloc: Global, b: &[u8]) -> Result<Module, ReadFault>
+    requires { length b.now ≤ 67108864 }
+    ensures { Tells b.now result }
 {
     let found = sections(alloc, b, Version::Three)?;
-    match core_payloads(b, found.as_slice()) {
-        Some(payloads) => Ok(payloads),
-        None => Err(ReadFault::NotCore),
+    if let Some(place) = first_misfit::<Payloads3>(alloc, b, found.as_slice())? {
+        return Err(ReadFault::Section(place));
+    }
+    read_bodies(alloc, b, found.as_slice())
+}
+
+/// Reads a file whose sections are in their grammar.
+fn read_bodies(alloc: Global, b: &[u8], found: &[Section]) -> Result<Module, ReadFault>
+    requires within { All (IsWithin b.now) found.now }
+    requires frame { Frame Three b.now (parts_of b.now found.now) Whole }
+    requires parts { AllByRecursion IsPart (parts_of b.now found.now) }
+    ensures { Tells b.now result }
+{
+    match measure_bodies(alloc, payload_of(b, found, 10))? {
+        Walk::Misfit(place) => Err(ReadFault::Body(place)),
+        Walk::Measured(extent) => read_parts(alloc, b, found, extent),
     }
 }
 
-/// The payloads of sections that are those of a core module.
-fn core_payloads<'a>(b: &'a [u8], sections: &[Section]) -> Option<Payloads<'a>>
-    requires { All (IsWithin b.now) sections.now }
-    ensures { MatchOption result
-        ((types funcs exports codes : List ℕ) → parts_of b.now sections.now ≡ core_parts types funcs exports codes → ⊥)
-        (λ p. parts_of b.now sections.now ≡ core_parts p.types.now p.funcs.now p.exports.now p.codes.now) }
+/// Reads a file whose sections and bodies are in their grammar, the bodies being of this extent.
+fn read_parts(
+    alloc: Global,
+    b: &[u8],
+    found: &[Section],
+    extent: BodyExtent,
+) -> Result<Module, ReadFault>
+    requires within { All (IsWithin b.now) found.now }
+    requires grammar { Grammar b.now (made (λ id. payload_of id (parts_of b.now found.now))) }
+    requires extent { IsExtentOf extent (made (λ id. payload_of id (parts_of b.now found.now))).codes }
+    ensures { Tells b.now result }
 {
-    match sections {
-        [types, funcs, exports, codes]
-            if types.id == 1 && funcs.id == 3 && exports.id == 7 && codes.id == 10 => {
-            Some(Payloads {
-                types: &b[types.start..types.end],
-                funcs: &b[funcs.start..funcs.end],
-                exports: &b[exports.start..exports.end],
-                codes: &b[codes.start..codes.end],
-            })
-        }
-        _ => None,
+    let sizes = size_parts(alloc, b, found, extent)?;
+    let data_count = number_at(b, found, 12);
+    if !agree(
+        sizes.funcs,
+        extent.count,
+        data_count,
+        sizes.segments,
+        extent.names_data,
+    ) {
+        return Err(ReadFault::Counts);
     }
+    if let Some(kind) = first_in_front(&sizes.numbers) {
+        return Err(ReadFault::Limit(kind));
+    }
+    read_within(alloc, b, found, sizes.numbers)
 }
 
-/// The entries of a payload that is one vector.
-fn part<E: Entry>(alloc: Global, payload: &[u8]) -> Result<Items<E::Value>, ReadFault>
-    ensures { Answers result
-        (λ entries. whole ((vector u32 E.form).read payload.now) ≡ Some entries)
-        (whole ((vector u32 E.form).read payload.now) ≡ None) }
+/// Reads a file that spells a module whose numbers are these, those of the payload of tags and of nesting not yet tested.
+fn read_within(
+    alloc: Global,
+    b: &[u8],
+    found: &[Section],
+    numbers: Numbers,
+) -> Result<Module, ReadFault>
+    requires within { All (IsWithin b.now) found.now }
+    requires spells { Spells b.now (made (λ id. payload_of id (parts_of b.now found.now))) }
+    requires numbers { AreOf front_kinds numbers (made (λ id. payload_of id (parts_of b.now found.now))) }
+    requires nesting { numbers.nesting ≡ nesting (made (λ id. payload_of id (parts_of b.now found.now))) }
+    ensures { Tells b.now result }
 {
-    let Some((count, rest)) = split_u32(payload) else {
-        return Err(ReadFault::NotCore);
-    };
-    let (entries, rest) = read_many::<E>(alloc, count, rest)?;
-    if rest.is_empty() {
-        Ok(entries)
-    } else {
-        Err(ReadFault::NotCore)
+    let types = entries_at::<TypeEntry>(alloc, b, found, 1)?;
+    let tags = entries_at::<TagEntry>(alloc, b, found, 13)?;
+    let payload = greatest_payload(types.as_slice(), tags.as_slice());
+    let numbers = Numbers { payload, ..numbers };
+    if let Some(kind) = first_passed(&numbers) {
+        return Err(ReadFault::Limit(kind));
     }
-}
-
-/// The one body, which has no group of locals.
-fn core_codes(alloc: Global, mut bodies: Items<DeclaredBody>) -> Result<Items<Body>, ReadFault>
-    ensures { Answers result
-        (λ codes. (body : DeclaredBody) × (bodies ≡ body ∷ []) × (body.groups ≡ []) × (codes ≡ body_of body ∷ []))
-        ((body : DeclaredBody) → bodies ≡ body ∷ [] → body.groups ≡ [] → ⊥) }
-{
-    let Some(DeclaredBody { groups, code }) = bodies.pop() else {
-        return Err(ReadFault::NotCore);
-    };
-    if !bodies.is_empty() || !groups.is_empty() {
-        return Err(ReadFault::NotCore);
-    }
-    let locals = Types::new(alloc);
-    let mut codes = Items::new(alloc);
-    codes.push(Body { locals, code })?;
-    Ok(codes)
+    Ok(build(alloc, b, found, types, tags)?)
 }

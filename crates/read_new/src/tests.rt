@@ -1,101 +1,375 @@
+ghost use Rattle.std.specs.Prelude.{◌≤◌, length, IfSome};
+
 use super::*;
-use num_core::operators::Conv;
-use std::alloc::Global;
+use std::alloc::{AllocError, Global};
+use std::process::Abort;
 use std::test::Fail;
-use wasm_ast::module::{ExportDesc, Instr, Module, Op};
+use wasm_ast::module::{BlockType, Element, Instr, Mode, Module, Ty};
+use wasm_frame::sections::FrameFault;
 
-const TYPES: &[u8] = b"\x01\x06\x01\x60\x01\x7F\x01\x7F";
+const HEAD: &[u8] = b"\0asm\x01\0\0\0";
 
-const FUNCS: &[u8] = b"\x03\x02\x01\x00";
+/// What reading a file comes to.
+#[derive(Clone, Copy, Debug, PartialEq, Eq)]
+enum Outcome {
+    Read,
+    BadHead,
+    BadSize,
+    BadOrder,
+    Section(u32),
+    Body(u32),
+    Counts,
+    Limit(Kind),
+}
 
-const EXPORTS: &[u8] = b"\x07\x05\x01\x01f\x00\x00";
-
-const CODES: &[u8] = b"\x0A\x07\x01\x05\x00\x20\x00\xC0\x0B";
-
-/// What is read of a file of four sections: none where it is no core module.
-fn read_sections(alloc: Global, sections: [&[u8]; 4]) -> Result<Option<Module>, Fail> {
-    let mut file = Vec::from_slice(alloc, b"\0asm\x01\0\0\0")?;
-    for section in sections {
-        file.extend_from_slice(section)?;
-    }
-    if file.len() > 1000 {
-        return Err(Fail::from("too long a file"));
-    }
-    match read(alloc, file.as_slice()) {
-        Ok(m) => Ok(Some(m)),
-        Err(ReadFault::NotCore) => Ok(None),
-        Err(ReadFault::Memory(error)) => Err(Fail::from(error)),
+fn within_limit(file: &[u8]) -> Option<&[u8]>
+    ensures { IfSome result (λ f. length f.now ≤ 67108864) }
+{
+    if file.len() <= 67_108_864 {
+        Some(file)
+    } else {
+        None
     }
 }
 
-#[test]
-fn parts_of_a_core_module(rt: HostRuntime) -> Result<(), Fail> {
-    let codes: &[u8] = b"\x0A\x0A\x01\x08\x00\x20\x00\x41\x7F\x6A\xC1\x0B";
-    let m = read_sections(rt.alloc(), [TYPES, FUNCS, EXPORTS, codes])?.ok_or("no module")?;
-    let ty = m.types.get(0).ok_or("no type")?;
-    assert_eq!(rt; ty.params.as_slice().len(), 1);
-    assert_eq!(rt; ty.results.as_slice().len(), 1);
-    assert_eq!(rt; m.funcs.as_slice(), [0].as_slice());
-    let export = m.exports.get(0).ok_or("no export")?;
-    assert_eq!(rt; export.name.as_str(), "f");
-    assert_eq!(rt; export.desc, ExportDesc::Func(0));
-    let body = m.codes.get(0).ok_or("no body")?;
-    assert!(rt; matches!(body.code.get(0), Some(Instr::LocalGet(0))));
-    assert!(rt;
-        matches!(
-            body.code.get(1),
-            Some(Instr::Pure(Op::I32Const(0xFFFF_FFFF)))
-        )
-    );
-    assert!(rt;
-        matches!(
-            body.code.get(3),
-            Some(Instr::Pure(Op::Convert(Conv::S16of32)))
-        )
-    );
-    assert_eq!(rt; body.code.len(), 4);
+fn outcome_of(alloc: Global, file: &[u8]) -> Result<Outcome, Fail> {
+    let file = within_limit(file).ok_or("too long a file")?;
+    Ok(match read(alloc, file) {
+        Ok(_) => Outcome::Read,
+        Err(ReadFault::Frame(FrameFault::BadHead)) => Outcome::BadHead,
+        Err(ReadFault::Frame(FrameFault::BadSize)) => Outcome::BadSize,
+        Err(ReadFault::Frame(FrameFault::BadOrder)) => Outcome::BadOrder,
+        Err(ReadFault::Frame(FrameFault::Memory(error))) => return Err(Fail::from(error)),
+        Err(ReadFault::Section(place)) => Outcome::Section(place),
+        Err(ReadFault::Body(place)) => Outcome::Body(place),
+        Err(ReadFault::Counts) => Outcome::Counts,
+        Err(ReadFault::Limit(kind)) => Outcome::Limit(kind),
+        Err(ReadFault::Memory(error)) => return Err(Fail::from(error)),
+    })
+}
+
+/// The head, and then these bytes.
+fn file_of(alloc: Global, sections: &[u8]) -> Result<Vec<u8>, AllocError> {
+    let mut file = Vec::from_slice(alloc, HEAD)?;
+    file.extend_from_slice(sections)?;
+    Ok(file)
+}
+
+fn module_of(alloc: Global, sections: &[u8]) -> Result<Module, Fail> {
+    let file = file_of(alloc, sections)?;
+    let file = within_limit(file.as_slice()).ok_or("too long a file")?;
+    read(alloc, file).map_err(|_| Fail::from("no module"))
+}
+
+fn check(rt: &(impl Abort + AllocGlobal), rows: &[(&str, &[u8], Outcome)]) -> Result<(), Fail> {
+    for (what, sections, expected) in rows {
+        let file = file_of(rt.alloc(), sections)?;
+        assert!(rt;
+            outcome_of(rt.alloc(), file.as_slice())? == *expected,
+            "{what}"
+        );
+    }
     Ok(())
 }
 
 #[test]
-fn core_modules_and_others(rt: HostRuntime) -> Result<(), Fail> {
-    let long_count: &[u8] = b"\x0A\x08\x81\x00\x05\x00\x20\x00\xC0\x0B";
-    let index_of_five: &[u8] = b"\x0A\x0B\x01\x09\x00\x20\x80\x80\x80\x80\x00\xC0\x0B";
-    let index_of_six: &[u8] = b"\x0A\x0C\x01\x0A\x00\x20\x80\x80\x80\x80\x80\x00\xC0\x0B";
-    let wide_extension: &[u8] = b"\x0A\x07\x01\x05\x00\x20\x00\xC2\x0B";
-    let cut_off: &[u8] = b"\x0A\x07\x01\x05\x00\x20\x00\xC0";
-    let reserved: &[u8] = b"\x07\x0B\x01\x07lower.f\x00\x00";
-    let nearly_reserved: &[u8] = b"\x07\x09\x01\x05lower\x00\x00";
-    let no_locals_in_a_group: &[u8] = b"\x0A\x09\x01\x07\x01\x00\x7F\x20\x00\xC0\x0B";
-    let bytes_behind_the_end: &[u8] = b"\x0A\x08\x01\x06\x00\x20\x00\xC0\x0B\x0B";
-    let no_operand: &[u8] = b"\x0A\x05\x01\x03\x00\xC0\x0B";
-    let operand_left: &[u8] = b"\x0A\x08\x01\x06\x00\x20\x00\x20\x00\x0B";
-    let files: [(&str, [&[u8]; 4], bool); 13] = [
-        ("plain", [TYPES, FUNCS, EXPORTS, CODES], true),
-        ("long count", [TYPES, FUNCS, EXPORTS, long_count], true),
-        ("five bytes", [TYPES, FUNCS, EXPORTS, index_of_five], true),
-        ("six bytes", [TYPES, FUNCS, EXPORTS, index_of_six], false),
-        ("i64", [TYPES, FUNCS, EXPORTS, wide_extension], false),
-        ("cut off", [TYPES, FUNCS, EXPORTS, cut_off], false),
-        ("swapped", [FUNCS, TYPES, EXPORTS, CODES], false),
-        ("reserved", [TYPES, FUNCS, reserved, CODES], false),
-        ("nearly", [TYPES, FUNCS, nearly_reserved, CODES], true),
+fn forms_of_sections(rt: HostRuntime) -> Result<(), Fail> {
+    let rows: [(&str, &[u8], Outcome); 24] = [
+        ("nothing", b"", Outcome::Read),
         (
-            "group",
-            [TYPES, FUNCS, EXPORTS, no_locals_in_a_group],
-            false,
+            "padded count",
+            b"\x01\x05\x80\x80\x80\x80\x00",
+            Outcome::Read,
         ),
         (
-            "behind",
-            [TYPES, FUNCS, EXPORTS, bytes_behind_the_end],
-            false,
+            "value types",
+            b"\x01\x0C\x01\x60\x08\x7F\x7E\x7D\x7C\x7B\x70\x6F\x69\x00",
+            Outcome::Read,
         ),
-        ("none", [TYPES, FUNCS, EXPORTS, no_operand], false),
-        ("left", [TYPES, FUNCS, EXPORTS, operand_left], false),
+        (
+            "long references",
+            b"\x01\x0A\x01\x60\x03\x63\x70\x63\x6F\x63\x69\x00",
+            Outcome::Read,
+        ),
+        (
+            "imports",
+            b"\x02\x24\x05\x01a\x01b\x00\x00\x01a\x01c\x01\x70\x00\x00\x01a\x01d\x02\x04\x01\x01a\x01e\x03\x7E\x01\x01a\x01f\x04\x00\x00",
+            Outcome::Read,
+        ),
+        (
+            "tables",
+            b"\x04\x0E\x02\x70\x01\x01\x02\x40\x00\x63\x70\x00\x01\xD0\x70\x0B",
+            Outcome::Read,
+        ),
+        (
+            "memories",
+            b"\x05\x0B\x04\x00\x01\x01\x01\x02\x04\x01\x05\x01\x02",
+            Outcome::Read,
+        ),
+        ("tag", b"\x0D\x03\x01\x00\x00", Outcome::Read),
+        ("global", b"\x06\x06\x01\x7F\x00\x41\x00\x0B", Outcome::Read),
+        (
+            "exports",
+            b"\x07\x15\x05\x01a\x00\x00\x01b\x01\x00\x01c\x02\x00\x01d\x03\x00\x01e\x04\x00",
+            Outcome::Read,
+        ),
+        ("start", b"\x08\x01\x07", Outcome::Read),
+        (
+            "data",
+            b"\x0B\x0F\x03\x00\x41\x00\x0B\x01x\x01\x00\x02\x00\x41\x00\x0B\x00",
+            Outcome::Read,
+        ),
+        ("data count", b"\x0C\x01\x00", Outcome::Read),
+        (
+            "custom",
+            b"\x00\x02\x01a\x05\x03\x01\x00\x01\x00\x03\x01b!",
+            Outcome::Read,
+        ),
+        (
+            "count of six bytes",
+            b"\x01\x06\x80\x80\x80\x80\x80\x00",
+            Outcome::Section(0),
+        ),
+        (
+            "packed type",
+            b"\x01\x05\x01\x60\x01\x78\x00",
+            Outcome::Section(0),
+        ),
+        (
+            "concrete reference",
+            b"\x01\x06\x01\x60\x01\x63\x00\x00",
+            Outcome::Section(0),
+        ),
+        (
+            "fifth kind of import",
+            b"\x02\x07\x01\x01a\x01b\x05\x00",
+            Outcome::Section(0),
+        ),
+        (
+            "shared memory",
+            b"\x05\x04\x01\x03\x01\x01",
+            Outcome::Section(0),
+        ),
+        (
+            "third mutability",
+            b"\x06\x06\x01\x7F\x02\x41\x00\x0B",
+            Outcome::Section(0),
+        ),
+        (
+            "tag with another byte",
+            b"\x0D\x03\x01\x01\x00",
+            Outcome::Section(0),
+        ),
+        ("data flag 3", b"\x0B\x03\x01\x03\x00", Outcome::Section(0)),
+        (
+            "bytes behind the vector",
+            b"\x03\x02\x00\x00",
+            Outcome::Section(0),
+        ),
+        ("custom without a name", b"\x00\x00", Outcome::Section(0)),
     ];
-    for (what, sections, is_core) in files {
-        let found = read_sections(rt.alloc(), sections)?;
-        assert!(rt; found.is_some() == is_core, "{what}");
+    check(&rt, &rows)
+}
+
+#[test]
+fn first_fault_in_order(rt: HostRuntime) -> Result<(), Fail> {
+    let rows: [(&str, &[u8], Outcome); 12] = [
+        ("cut off", b"\x01\x05\x00", Outcome::BadSize),
+        ("repeated", b"\x01\x01\x00\x01\x01\x00", Outcome::BadOrder),
+        (
+            "frame before section",
+            b"\x01\x01\x07\x01\x01\x00",
+            Outcome::BadOrder,
+        ),
+        (
+            "second section",
+            b"\x01\x01\x00\x03\x01\x07",
+            Outcome::Section(1),
+        ),
+        (
+            "section before body",
+            b"\x0A\x04\x01\x02\x00\x06\x0B\x01\x01",
+            Outcome::Section(1),
+        ),
+        (
+            "second body",
+            b"\x03\x03\x02\x00\x00\x0A\x07\x02\x02\x00\x0B\x02\x00\x06",
+            Outcome::Body(1),
+        ),
+        (
+            "bytes behind the end",
+            b"\x03\x02\x01\x00\x0A\x05\x01\x03\x00\x0B\x0B",
+            Outcome::Body(0),
+        ),
+        (
+            "body before counts",
+            b"\x03\x01\x00\x0A\x04\x01\x02\x00\x06",
+            Outcome::Body(0),
+        ),
+        (
+            "function without a body",
+            b"\x03\x02\x01\x00",
+            Outcome::Counts,
+        ),
+        ("data count of none", b"\x0C\x01\x01", Outcome::Counts),
+        (
+            "data.drop without a data count",
+            b"\x03\x02\x01\x00\x0A\x07\x01\x05\x00\xFC\x09\x00\x0B",
+            Outcome::Counts,
+        ),
+        (
+            "data.drop with one",
+            b"\x03\x02\x01\x00\x0C\x01\x00\x0A\x07\x01\x05\x00\xFC\x09\x00\x0B",
+            Outcome::Read,
+        ),
+    ];
+    check(&rt, &rows)?;
+    assert_eq!(rt;
+        outcome_of(rt.alloc(), b"\0asm\x02\0\0\0")?,
+        Outcome::BadHead
+    );
+    Ok(())
+}
+
+/// Whether a segment is active in this table, passive, or declarative.
+fn mode_of(element: &Element) -> Option<u32> {
+    match &element.mode {
+        Mode::Active(table, _) => Some(*table),
+        Mode::Passive => Some(100),
+        Mode::Declarative => Some(200),
+    }
+}
+
+#[test]
+fn flags_of_elements(rt: HostRuntime) -> Result<(), Fail> {
+    let sections =
+        b"\x09\x35\x08\x00\x41\x00\x0B\x01\x07\x01\x00\x01\x07\x02\x03\x41\x00\x0B\x00\x01\x07\x03\x00\x01\x07\x04\x41\x00\x0B\x01\xD2\x07\x0B\x05\x6F\x01\xD0\x6F\x0B\x06\x03\x41\x00\x0B\x6F\x01\xD0\x6F\x0B\x07\x6F\x01\xD0\x6F\x0B";
+    let m = module_of(rt.alloc(), sections)?;
+    let expected = [
+        (0, Ty::Func),
+        (100, Ty::Func),
+        (3, Ty::Func),
+        (200, Ty::Func),
+        (0, Ty::Func),
+        (100, Ty::Extern),
+        (3, Ty::Extern),
+        (200, Ty::Extern),
+    ];
+    assert_eq!(rt; m.elems.len(), expected.len());
+    for (element, (mode, ty)) in m.elems.as_slice().iter().zip(expected) {
+        assert!(rt; mode_of(element) == Some(mode));
+        assert!(rt; element.ty == ty);
+        assert_eq!(rt; element.items.len(), 1);
+    }
+    check(
+        &rt,
+        &[("flag 8", b"\x09\x03\x01\x08\x00", Outcome::Section(0))],
+    )
+}
+
+#[test]
+fn parts_of_a_module(rt: HostRuntime) -> Result<(), Fail> {
+    let sections =
+        b"\x01\x06\x01\x60\x01\x7F\x01\x7F\x03\x02\x01\x00\x0A\x0F\x01\x0D\x02\x02\x7E\x01\x7B\x03\x40\x0C\x00\x0B\x20\x00\x0B";
+    let m = module_of(rt.alloc(), sections)?;
+    assert_eq!(rt; m.funcs.as_slice(), [0].as_slice());
+    let body = m.codes.get(0).ok_or("no body")?;
+    assert_eq!(rt;
+        body.locals.as_slice(),
+        [Ty::I64, Ty::I64, Ty::V128].as_slice()
+    );
+    let Some(Instr::Loop(ty, inner)) = body.code.get(0) else {
+        return Err(Fail::from("no loop"));
+    };
+    assert_eq!(rt; *ty, BlockType::Empty);
+    assert!(rt; matches!(inner.get(0), Some(Instr::Br(0))));
+    assert!(rt; matches!(body.code.get(1), Some(Instr::LocalGet(0))));
+    Ok(())
+}
+
+/// A section of an id, whose payload is a front, an item so many times, and an end.
+fn repeated(
+    alloc: Global,
+    front: &[u8],
+    item: &[u8],
+    count: u32,
+    end: &[u8],
+) -> Result<Vec<u8>, AllocError> {
+    let mut file = file_of(alloc, front)?;
+    for _ in 0..count {
+        file.extend_from_slice(item)?;
+    }
+    file.extend_from_slice(end)?;
+    Ok(file)
+}
+
+#[test]
+fn limits_and_one_past(rt: HostRuntime) -> Result<(), Fail> {
+    let alloc = rt.alloc();
+    let memories = repeated(alloc, b"\x05\xC9\x01\x64", b"\x00\x00", 100, b"")?;
+    assert_eq!(rt; outcome_of(alloc, memories.as_slice())?, Outcome::Read);
+    let memories = repeated(alloc, b"\x05\xCB\x01\x65", b"\x00\x00", 101, b"")?;
+    assert_eq!(rt;
+        outcome_of(alloc, memories.as_slice())?,
+        Outcome::Limit(Kind::Memories)
+    );
+    let params = repeated(
+        alloc,
+        b"\x01\xEE\x07\x01\x60\xE9\x07",
+        b"\x7F",
+        1001,
+        b"\x00",
+    )?;
+    assert_eq!(rt;
+        outcome_of(alloc, params.as_slice())?,
+        Outcome::Limit(Kind::Parameters)
+    );
+    let locals = b"\x03\x02\x01\x00\x0A\x09\x01\x07\x01\xD1\x86\x03\x7F\x0B\x0B";
+    check(&rt, &[("locals behind the end", locals, Outcome::Body(0))])?;
+    let locals = b"\x03\x02\x01\x00\x0A\x08\x01\x06\x01\xD1\x86\x03\x7F\x0B";
+    check(&rt, &[("locals", locals, Outcome::Limit(Kind::Locals))])
+}
+
+#[test]
+fn open_blocks_are_no_body(rt: HostRuntime) -> Result<(), Fail> {
+    let alloc = rt.alloc();
+    let front = b"\x03\x02\x01\x00\x0A\x86\x92\xF4\x01\x01\x81\x92\xF4\x01\x00";
+    let blocks = repeated(alloc, front, b"\x02\x40", 2_000_000, b"")?;
+    assert_eq!(rt; outcome_of(alloc, blocks.as_slice())?, Outcome::Body(0));
+    Ok(())
+}
+
+#[test]
+fn core_files_and_others(rt: HostRuntime) -> Result<(), Fail> {
+    let alloc = rt.alloc();
+    let plain: &[u8] =
+        b"\x01\x06\x01\x60\x01\x7F\x01\x7F\x03\x02\x01\x00\x07\x05\x01\x01f\x00\x00\x0A\x07\x01\x05\x00\x20\x00\xC0\x0B";
+    let custom: &[u8] =
+        b"\x00\x02\x01a\x01\x06\x01\x60\x01\x7F\x01\x7F\x03\x02\x01\x00\x07\x05\x01\x01f\x00\x00\x0A\x07\x01\x05\x00\x20\x00\xC0\x0B";
+    let group: &[u8] =
+        b"\x01\x06\x01\x60\x01\x7F\x01\x7F\x03\x02\x01\x00\x07\x05\x01\x01f\x00\x00\x0A\x09\x01\x07\x01\x00\x7F\x20\x00\xC0\x0B";
+    let wide: &[u8] =
+        b"\x01\x06\x01\x60\x01\x7F\x01\x7F\x03\x02\x01\x00\x07\x05\x01\x01f\x00\x00\x0A\x07\x01\x05\x00\x20\x00\xC2\x0B";
+    let reserved: &[u8] =
+        b"\x01\x06\x01\x60\x01\x7F\x01\x7F\x03\x02\x01\x00\x07\x0B\x01\x07lower.f\x00\x00\x0A\x07\x01\x05\x00\x20\x00\xC0\x0B";
+    let rows = [
+        ("plain", plain, true),
+        ("custom section", custom, false),
+        ("group of no locals", group, false),
+        ("i64.extend8_s", wide, false),
+        ("reserved name", reserved, false),
+    ];
+    for (what, sections, expected) in rows {
+        let file = file_of(alloc, sections)?;
+        assert!(rt; is_core(alloc, file.as_slice())? == expected, "{what}");
     }
     Ok(())
+}
+
+fn is_core(alloc: Global, file: &[u8]) -> Result<bool, Fail> {
+    let file = within_limit(file).ok_or("too long a file")?;
+    match read(alloc, file) {
+        Ok(m) => Ok(is_core_file(alloc, file, &m)?),
+        Err(_) => Err(Fail::from("no module")),
+    }
 }

@@ -2,11 +2,12 @@ ghost use Rattle.std.specs.Prelude.{◌≡◌, ℕ, ◌≤◌, List, length, IsT
 ghost use Rattle.lower_tool.specs.Causes.{Rose};
 ghost use Rattle.lower_tool.specs.Held.{WhereTold};
 ghost use Rattle.lower_tool.specs.Statuses.{TakesWithinLimit};
-ghost use Rattle.lower_tool.specs.Stops.{IfRefused, Refuses};
-ghost use Rattle.lower_tool.specs.Verdict.{file_limit};
+ghost use Rattle.lower_tool.specs.Stops.{IfRefused};
+ghost use Rattle.lower_tool.specs.Verdict.{file_limit, Refuses};
 
-use super::stop::{Refusal, Stop};
+use super::stop::Stop;
 use crate::files::Files;
+use crate::verdict::Refusal;
 use num_core::lists::Bytes;
 use std::alloc::Global;
 

@@ -3,8 +3,8 @@ ghost use Rattle.lower_tool.specs.Causes.{Rose};
 ghost use Rattle.lower_tool.specs.Held.{WhereTold};
 ghost use Rattle.lower_tool.specs.Lowering.{Lowers, default_captures};
 ghost use Rattle.lower_tool.specs.Statuses.{TakesWithinLimit};
-ghost use Rattle.lower_tool.specs.Stops.{IfRefused, Refuses};
-ghost use Rattle.lower_tool.specs.Verdict.{IsFine};
+ghost use Rattle.lower_tool.specs.Stops.{IfRefused};
+ghost use Rattle.lower_tool.specs.Verdict.{IsFine, Refuses};
 
 use super::input::read_file;
 use super::stop::Stop;

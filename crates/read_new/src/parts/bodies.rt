@@ -1,43 +1,36 @@
 // The bodies of functions, as the binary format has them.
 
-ghost use Rattle.std.specs.Prelude.{◌^◌, ◌<◌, ◌↔◌, IsTrue};
-ghost use Rattle.grammar_kit.specs.Gives.{Gives};
-ghost use Rattle.wasm_frame.specs.Leb128.{u32};
+ghost use Rattle.std.specs.Prelude.{◌≡◌, ◌<◌, ◌^◌, ◌++◌, ◌↔◌, IsTrue, IfOk, OnOk, option_map, replicate};
 ghost use Rattle.grammar_kit.specs.Form.{vector};
-ghost use Rattle.grammar_kit.specs.Sequences.{sized};
-ghost use Rattle.read_new.specs.Bodies.{local_group, locals_count, declared_body};
+ghost use Rattle.grammar_kit.specs.Gives.{Gives};
+ghost use Rattle.grammar_kit.specs.Sequences.{sized, whole};
+ghost use Rattle.wasm_frame.specs.Leb128.{u32};
+ghost use Rattle.wasm_frame.specs.Name.{byte_vector};
+ghost use Rattle.read_new.specs.Bodies.{local_group, locals_count, locals_of, body, sizes_of};
 
-use super::code::read_expr;
-use super::types::read_val_type;
-use grammar_kit::{Entry, FormError, read_many};
-use sqlite_items::Items;
-use std::alloc::Global;
-use wasm_ast::module::{Code, Ty};
+use code_new::code::{measure_expr, read_expr};
+use code_new::types::split_val_type;
+use grammar_kit::{Entry, FormError, Measure, measure_many, read_many};
+use num_core::lists::Bytes;
+use std::alloc::{AllocError, Global};
+use wasm_ast::lists::Types;
+use wasm_ast::module::{Body, Ty};
 use wasm_frame::names::split_byte_vector;
 use wasm_frame::numbers::split_u32;
 
-/// So many locals of one type ("Code Section" of the standard).
-#[derive(Clone, Copy)]
+/// Locals of one type ("Code Section" of the standard).
+#[derive(Clone, Copy, Debug, PartialEq, Eq)]
 pub struct LocalGroup {
-    /// How many locals.
+    /// How many.
     pub count: u32,
-    /// The type of each.
+    /// Their type.
     pub ty: Ty,
 }
 
-/// A body as the binary format has it: its locals in groups, however many a group has.
-#[derive(Drop)]
-pub struct DeclaredBody {
-    /// The groups of locals, in order.
-    pub groups: Items<LocalGroup>,
-    /// Its code.
-    pub code: Code,
-}
+/// A group of locals as an entry.
+struct GroupEntry;
 
-/// A group of locals in a body.
-struct LocalGroupEntry;
-
-impl Entry for LocalGroupEntry {
+impl Entry for GroupEntry {
     type Value = LocalGroup;
 
     ghost form = { local_group };
@@ -45,9 +38,78 @@ impl Entry for LocalGroupEntry {
     #[tactic(auto, unfolding(crate::specs::Bodies::local_group))]
     fn entry(_alloc: Global, bytes: &[u8]) -> Result<(LocalGroup, &[u8]), FormError> {
         let (count, rest) = split_u32(bytes).ok_or(FormError::Malformed)?;
-        let (ty, rest) = read_val_type(rest).ok_or(FormError::Malformed)?;
+        let (ty, rest) = split_val_type(rest).ok_or(FormError::Malformed)?;
         Ok((LocalGroup { count, ty }, rest))
     }
+}
+
+/// How many locals a group declares.
+struct GroupMeasure;
+
+impl Measure for GroupMeasure {
+    type Value = LocalGroup;
+
+    ghost form = { local_group };
+
+    ghost size = { λ g. g.count };
+
+    fn measure(alloc: Global, bytes: &[u8]) -> Result<(u32, &[u8]), FormError> {
+        let (group, rest) = GroupEntry::entry(alloc, bytes)?;
+        Ok((group.count, rest))
+    }
+}
+
+/// How large a body is.
+#[derive(Clone, Copy, Debug, PartialEq, Eq)]
+pub struct BodySizes {
+    /// How many locals it declares.
+    pub locals: u64,
+    /// How deeply instructions nest in it.
+    pub nesting: u32,
+    /// Whether an instruction of it names a data segment.
+    pub names_data: bool,
+}
+
+/// How large the body is that all of the bytes spell. Neither locals nor instructions are kept.
+#[tactic(auto, unfolding(crate::specs::Bodies::body, crate::specs::Bodies::body_with))]
+pub fn measure_body(alloc: Global, text: &[u8]) -> Result<BodySizes, FormError>
+    ensures { Gives (λ s. (s.locals, s.nesting, s.names_data)) result (option_map sizes_of (whole (body.read text.now))) }
+{
+    let (count, rest) = split_u32(text).ok_or(FormError::Malformed)?;
+    let (extent, rest) = measure_many::<GroupMeasure>(alloc, count, rest)?;
+    if extent.total > u64::from(u32::MAX) {
+        return Err(FormError::Malformed);
+    }
+    let (sizes, rest) = measure_expr(alloc, rest)?;
+    if !rest.is_empty() {
+        return Err(FormError::Malformed);
+    }
+    Ok(BodySizes {
+        locals: extent.total,
+        nesting: sizes.nesting,
+        names_data: sizes.names_data,
+    })
+}
+
+/// Appends the locals of a group.
+fn push_locals(locals: &mut Types, group: LocalGroup) -> Result<(), AllocError>
+    ensures { OnOk result (locals.new ≡ locals.old ++ replicate group.count group.ty) }
+{
+    for _ in 0..group.count {
+        locals.push(group.ty)?;
+    }
+    Ok(())
+}
+
+/// Each local of the groups.
+fn locals_of(alloc: Global, groups: &[LocalGroup]) -> Result<Types, AllocError>
+    ensures { IfOk result (λ locals. locals ≡ locals_of groups.now) }
+{
+    let mut locals = Types::new(alloc);
+    for group in groups {
+        push_locals(&mut locals, *group)?;
+    }
+    Ok(locals)
 }
 
 /// Whether the groups declare fewer than 2^32 locals in all.
@@ -64,42 +126,51 @@ fn are_countable(groups: &[LocalGroup]) -> bool
     true
 }
 
-/// The groups of locals at the front, and the bytes after them.
-fn read_groups(alloc: Global, bytes: &[u8]) -> Result<(Items<LocalGroup>, &[u8]), FormError>
-    ensures { Gives (λ p. (p.0, p.1.now)) result ((vector u32 local_group).read bytes.now) }
+/// The body that all of the bytes spell.
+#[tactic(auto, unfolding(crate::specs::Bodies::body, crate::specs::Bodies::body_with))]
+fn read_body(alloc: Global, text: &[u8]) -> Result<Body, FormError>
+    ensures { Gives (λ b. b) result (whole (body.read text.now)) }
 {
-    let (count, rest) = split_u32(bytes).ok_or(FormError::Malformed)?;
-    read_many::<LocalGroupEntry>(alloc, count, rest)
-}
-
-/// The body at the front, and the bytes after it.
-#[tactic(auto, unfolding(crate::specs::Bodies::declared_body))]
-fn read_body(alloc: Global, bytes: &[u8]) -> Result<(DeclaredBody, &[u8]), FormError>
-    ensures { Gives (λ p. (p.0, p.1.now)) result (declared_body.read bytes.now) }
-{
-    let (groups, rest) = read_groups(alloc, bytes)?;
+    let (count, rest) = split_u32(text).ok_or(FormError::Malformed)?;
+    let (groups, rest) = read_many::<GroupEntry>(alloc, count, rest)?;
     if !are_countable(groups.as_slice()) {
         return Err(FormError::Malformed);
     }
     let (code, rest) = read_expr(alloc, rest)?;
-    Ok((DeclaredBody { groups, code }, rest))
+    if !rest.is_empty() {
+        return Err(FormError::Malformed);
+    }
+    let locals = locals_of(alloc, groups.as_slice())?;
+    Ok(Body { locals, code })
 }
 
-/// An entry of the code section: a body behind the count of its bytes.
+/// The text of a body behind its size, which is not looked into: of size 0.
+pub struct TextMeasure;
+
+impl Measure for TextMeasure {
+    type Value = Bytes;
+
+    ghost form = { byte_vector };
+
+    ghost size = { λ text. 0 };
+
+    fn measure(_alloc: Global, bytes: &[u8]) -> Result<(u32, &[u8]), FormError> {
+        let (_, rest) = split_byte_vector(bytes).ok_or(FormError::Malformed)?;
+        Ok((0, rest))
+    }
+}
+
+/// An entry of the code section: a body behind its size.
 pub struct BodyEntry;
 
 impl Entry for BodyEntry {
-    type Value = DeclaredBody;
+    type Value = Body;
 
-    ghost form = { sized u32 declared_body };
+    ghost form = { sized u32 body };
 
-    fn entry(alloc: Global, bytes: &[u8]) -> Result<(DeclaredBody, &[u8]), FormError> {
-        let (content, rest) = split_byte_vector(bytes).ok_or(FormError::Malformed)?;
-        let (body, left) = read_body(alloc, content)?;
-        if left.is_empty() {
-            Ok((body, rest))
-        } else {
-            Err(FormError::Malformed)
-        }
+    fn entry(alloc: Global, bytes: &[u8]) -> Result<(Body, &[u8]), FormError> {
+        let (text, rest) = split_byte_vector(bytes).ok_or(FormError::Malformed)?;
+        let body = read_body(alloc, text)?;
+        Ok((body, rest))
     }
 }

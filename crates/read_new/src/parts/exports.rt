@@ -1,4 +1,4 @@
-ghost use Rattle.grammar_kit.specs.Gives.{Gives, GivesOption};
+ghost use Rattle.grammar_kit.specs.Gives.{GivesOption};
 ghost use Rattle.read_new.specs.Parts.{export_desc, export};
 
 use grammar_kit::{Entry, FormError, read_byte};
@@ -10,15 +10,20 @@ use wasm_frame::numbers::split_u32;
 
 /// What an export names, and the bytes after it.
 #[tactic(auto, unfolding(crate::specs::Parts::export_desc))]
-fn read_desc(bytes: &[u8]) -> Option<(ExportDesc, &[u8])>
+fn split_desc(bytes: &[u8]) -> Option<(ExportDesc, &[u8])>
     ensures { GivesOption (λ p. (p.0, p.1.now)) result (export_desc.read bytes.now) }
 {
-    match read_byte(bytes)? {
-        (0x00, rest) => {
-            let (index, rest) = split_u32(rest)?;
-            Some((ExportDesc::Func(index), rest))
-        }
-        _ => None,
+    let (kind, rest) = read_byte(bytes)?;
+    if kind > 0x04 {
+        return None;
+    }
+    let (index, rest) = split_u32(rest)?;
+    match kind {
+        0x00 => Some((ExportDesc::Func(index), rest)),
+        0x01 => Some((ExportDesc::Table(index), rest)),
+        0x02 => Some((ExportDesc::Memory(index), rest)),
+        0x03 => Some((ExportDesc::Global(index), rest)),
+        _ => Some((ExportDesc::Tag(index), rest)),
     }
 }
 
@@ -33,7 +38,7 @@ impl Entry for ExportEntry {
     #[tactic(auto, unfolding(crate::specs::Parts::export))]
     fn entry(alloc: Global, bytes: &[u8]) -> Result<(Export, &[u8]), FormError> {
         let (name, rest) = split_name(bytes).ok_or(FormError::Malformed)?;
-        let (desc, rest) = read_desc(rest).ok_or(FormError::Malformed)?;
+        let (desc, rest) = split_desc(rest).ok_or(FormError::Malformed)?;
         let name = Text::new(alloc, name)?;
         Ok((Export { name, desc }, rest))
     }

@@ -1,48 +1,49 @@
+ghost use Rattle.std.specs.Prelude.{length};
 ghost use Rattle.grammar_kit.specs.Form.{vector, many};
-ghost use Rattle.grammar_kit.specs.Gives.{Gives, GivesOption};
+ghost use Rattle.grammar_kit.specs.Gives.{Gives};
+ghost use Rattle.grammar_kit.specs.Measures.{through};
 ghost use Rattle.wasm_frame.specs.Leb128.{u32};
-ghost use Rattle.read_new.specs.Parts.{val_type, func_type};
+ghost use Rattle.code_new.specs.Types.{val_type};
+ghost use Rattle.read_new.specs.Types.{func_type, counts};
 
-use grammar_kit::{Entry, FormError, read_byte};
+use code_new::read_val_types;
+use code_new::types::split_val_type;
+use grammar_kit::{Dropped, Entry, FormError, Measure, measure_many, read_byte};
 use std::alloc::Global;
-use wasm_ast::lists::Types;
 use wasm_ast::module::{FuncType, Ty};
 use wasm_frame::numbers::split_u32;
 
-/// The value type at the front, and the bytes after it ("Value Types" of the standard).
-#[tactic(auto, unfolding(crate::specs::Parts::val_type))]
-pub fn read_val_type(bytes: &[u8]) -> Option<(Ty, &[u8])>
-    ensures { GivesOption (λ p. (p.0, p.1.now)) result (val_type.read bytes.now) }
-{
-    match read_byte(bytes)? {
-        (0x7F, rest) => Some((Ty::I32, rest)),
-        _ => None,
+/// A value type as an entry.
+struct ValTypeEntry;
+
+impl Entry for ValTypeEntry {
+    type Value = Ty;
+
+    ghost form = { val_type };
+
+    fn entry(_alloc: Global, bytes: &[u8]) -> Result<(Ty, &[u8]), FormError> {
+        split_val_type(bytes).ok_or(FormError::Malformed)
     }
 }
 
-/// The first `count` value types, and the bytes after them. Room is taken for one type at a time.
-fn read_many_types(alloc: Global, count: u32, bytes: &[u8]) -> Result<(Types, &[u8]), FormError>
-    ensures { Gives (λ p. (p.0, p.1.now)) result ((many val_type count).read bytes.now) }
+/// The bytes behind the first `count` value types, none of which is kept.
+fn skip_types(alloc: Global, count: u32, bytes: &[u8]) -> Result<&[u8], FormError>
+    ensures { Gives (λ r. (count, r.now)) result (through length ((many val_type count).read bytes.now)) }
 {
-    let mut types = Types::new(alloc);
-    let mut rest = bytes;
-    for _ in 0..count {
-        let (ty, after) = read_val_type(rest).ok_or(FormError::Malformed)?;
-        types.push(ty)?;
-        rest = after;
-    }
-    Ok((types, rest))
+    let (_, rest) = measure_many::<Dropped<ValTypeEntry>>(alloc, count, bytes)?;
+    Ok(rest)
 }
 
-/// The vector of value types at the front, and the bytes after it.
-fn read_val_types(alloc: Global, bytes: &[u8]) -> Result<(Types, &[u8]), FormError>
-    ensures { Gives (λ p. (p.0, p.1.now)) result ((vector u32 val_type).read bytes.now) }
+/// How many value types the vector at the front has, and the bytes after it.
+fn count_val_types(alloc: Global, bytes: &[u8]) -> Result<(u32, &[u8]), FormError>
+    ensures { Gives (λ p. (p.0, p.1.now)) result (through length ((vector u32 val_type).read bytes.now)) }
 {
     let (count, rest) = split_u32(bytes).ok_or(FormError::Malformed)?;
-    read_many_types(alloc, count, rest)
+    let rest = skip_types(alloc, count, rest)?;
+    Ok((count, rest))
 }
 
-/// An entry of the type section.
+/// An entry of the type section ("Function Types" of the standard).
 pub struct TypeEntry;
 
 impl Entry for TypeEntry {
@@ -50,7 +51,7 @@ impl Entry for TypeEntry {
 
     ghost form = { func_type };
 
-    #[tactic(auto, unfolding(crate::specs::Parts::func_type))]
+    #[tactic(auto, unfolding(crate::specs::Types::func_type))]
     fn entry(alloc: Global, bytes: &[u8]) -> Result<(FuncType, &[u8]), FormError> {
         match read_byte(bytes) {
             Some((0x60, rest)) => {
@@ -60,5 +61,52 @@ impl Entry for TypeEntry {
             }
             _ => Err(FormError::Malformed),
         }
+    }
+}
+
+/// How many parameters and results a function type has, and the bytes after it. None of them is kept.
+#[tactic(auto, unfolding(crate::specs::Types::func_type))]
+fn count_func_type(alloc: Global, bytes: &[u8]) -> Result<(u32, u32, &[u8]), FormError>
+    ensures { Gives (λ p. ((p.0, p.1), p.2.now)) result (through counts (func_type.read bytes.now)) }
+{
+    match read_byte(bytes) {
+        Some((0x60, rest)) => {
+            let (params, rest) = count_val_types(alloc, rest)?;
+            let (results, rest) = count_val_types(alloc, rest)?;
+            Ok((params, results, rest))
+        }
+        _ => Err(FormError::Malformed),
+    }
+}
+
+/// How many parameters the function types have.
+pub struct ParameterCounts;
+
+impl Measure for ParameterCounts {
+    type Value = FuncType;
+
+    ghost form = { func_type };
+
+    ghost size = { λ t. length t.params };
+
+    fn measure(alloc: Global, bytes: &[u8]) -> Result<(u32, &[u8]), FormError> {
+        let (params, _, rest) = count_func_type(alloc, bytes)?;
+        Ok((params, rest))
+    }
+}
+
+/// How many results the function types have.
+pub struct ResultCounts;
+
+impl Measure for ResultCounts {
+    type Value = FuncType;
+
+    ghost form = { func_type };
+
+    ghost size = { λ t. length t.results };
+
+    fn measure(alloc: Global, bytes: &[u8]) -> Result<(u32, &[u8]), FormError> {
+        let (_, results, rest) = count_func_type(alloc, bytes)?;
+        Ok((results, rest))
     }
 }

@@ -1,11 +1,9 @@
-use Rattle.std.proofs.Common.{Err, ap}
-use Rattle.lower_tool.specs.Lowering.{IsCoreFile, default_captures}
+use Rattle.lower_tool.proofs.Refusals.{not_core}
 use Rattle.lower_tool.proofs.lowering.lower_bytes.Goals as goal
 
-pub returns-in-Err-NotCore-clause-refused : goal.returns-in-Err-NotCore-clause-refused
-unfolding IsCoreFile
-returns-in-Err-NotCore-clause-refused c = λ e core. c.in-Err-NotCore.ensures.refused (ap (λ f. Err f) c.in-Err-NotCore.field-0-is) core.0 core.1
-
-pub returns-clause-lowered : goal.returns-clause-lowered
-returns-clause-lowered c =
-    (c.in-Ok.source, c.in_ok-output.output, c.in-Ok.ensures.read, c.in_ok-written.ensures, c.in_ok-output.ensures.typed, c.in_ok-output.ensures.same default_captures)
+-- the file spells one module alone, and that is not the core module
+pub returns-then-not-branch-clause-refused : goal.returns-then-not-branch-clause-refused
+returns-then-not-branch-clause-refused c =
+    let reads = c.in_ok-source.ensures.tells in
+    let is_core = c.in_ok-is_core_file.ensures in
+    (c.requires, (c.in_ok-source.source, reads), not_core c.args.bytes.now c.in_ok-source.source reads (λ spells. let no : ⊥ = cc (is_core.1 spells, c.if-not-branch.true) in no))

@@ -1,8 +1,12 @@
-use Rattle.read_new.proofs.Modules.{one_module}
+use Rattle.read_new.proofs.CoreFiles.{core_is_read}
+use Rattle.read_new.proofs.OneAnswer.{one_grammar, one_answer}
 use Rattle.read_new.proofs.laws.one_module.Goals as goal
 
 pub returns-clause-modules : goal.returns-clause-modules
-returns-clause-modules c = one_module
+returns-clause-modules c = λ b m o h k. one_grammar b m o h.grammar k.grammar
 
-pub returns-clause-core_modules : goal.returns-clause-core_modules
-returns-clause-core_modules c = λ b m o h k. one_module b m o h.spells k.spells
+pub returns-clause-answers : goal.returns-clause-answers
+returns-clause-answers c = one_answer
+
+pub returns-clause-core : goal.returns-clause-core
+returns-clause-core c = core_is_read

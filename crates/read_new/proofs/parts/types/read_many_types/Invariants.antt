@@ -1,9 +1,0 @@
-use Rattle.std.proofs.Common.{◌≡◌, ◌-◌}
-use Rattle.grammar_kit.specs.Form.{many}
-use Rattle.grammar_kit.proofs.Loop.{with_front}
-use Rattle.read_new.specs.Parts.{val_type}
-use Rattle.read_new.proofs.parts.types.read_many_types.Given as goal
-
--- what was read so far and what is still to be read are what the whole count reads
-abbrev pub invariant-loop : goal.invariant-loop
-invariant-loop l = with_front l.types ((many val_type (l.count - l.counter)).read l.rest) ≡ (many val_type l.count).read l.bytes
