@@ -7,8 +7,8 @@ use Rattle.wasm_frame.specs.declared.sections.FrameFault.TheVariants as frame
 use Rattle.read_new.specs.declared.fault.ReadFault.{ReadFault}
 use Rattle.read_new.specs.declared.fault.ReadFault.TheVariants as fault
 use Rattle.read_new.specs.Reads.{Reads}
-use Rattle.read_new.specs.CoreFiles.{SpellsCore}
-use Rattle.read_new.proofs.CoreFiles.{core_is_read}
+use Rattle.lower_tool.specs.CoreFiles.{SpellsCore}
+use Rattle.lower_tool.proofs.CoreFiles.{core_is_read}
 use Rattle.read_new.proofs.OneAnswer.{one_answer}
 use Rattle.lower_tool.specs.declared.lowering.LowerFault.{LowerFault}
 use Rattle.lower_tool.specs.declared.lowering.LowerFault.TheVariants as lower

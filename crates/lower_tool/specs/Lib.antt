@@ -1,11 +1,16 @@
+pub mod Bare
 pub mod Calls
 pub mod Causes
 pub mod Constants
+pub mod Core
+pub mod CoreFiles
+pub mod CoreTyping
 pub mod Distinct
 pub mod Headline
 pub mod Held
 pub mod Lowered
 pub mod Lowering
+pub mod MappedInterface
 pub mod Mapping
 pub mod Memory
 pub mod MemoryView

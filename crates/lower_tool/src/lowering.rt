@@ -8,11 +8,12 @@ ghost use Rattle.lower_tool.specs.Verdict.{Refuses};
 mod code;
 mod module;
 
+use crate::core_file::is_core_file;
 use crate::verdict::Refusal;
 use core1_bytes::write1;
 use module::lower_core;
 use num_core::lists::Bytes;
-use read_new::{ReadFault, is_core_file, read};
+use read_new::{ReadFault, read};
 use std::alloc::{AllocError, Global};
 use thiserror::Error;
 use wasm_frame::sections::FrameFault;

@@ -2,6 +2,7 @@
 #![tactic(auto)]
 
 pub mod calls;
+mod core_file;
 pub mod files;
 pub mod laws;
 pub mod lowering;

@@ -1,7 +1,4 @@
-pub mod Bare
 pub mod Bodies
-pub mod Core
-pub mod CoreFiles
 pub mod Faults
 pub mod Limits
 pub mod Made
@@ -10,6 +7,6 @@ pub mod Parts
 pub mod Reads
 pub mod Segments
 pub mod Spells
+pub mod Texts
 pub mod Types
-pub mod Typing
 pub mod Walks

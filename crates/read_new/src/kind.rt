@@ -1,34 +1,74 @@
+ghost use Rattle.std.specs.Prelude.{◌≡◌, ◌≤◌, length, Some};
+ghost use Rattle.read_new.specs.Texts.{word_of};
+
+use std::fmt;
+
 /// What a file may have only so many of, in the order in which the limits are tested.
 #[derive(Clone, Copy, Debug, PartialEq, Eq)]
 pub enum Kind {
-    /// Function types: 100,000.
+    /// Function types.
     Types,
-    /// Imports: 100,000.
+    /// Imports.
     Imports,
-    /// Functions, the imported ones counted: 100,000.
+    /// Functions, the imported ones counted.
     Functions,
-    /// Tables: 100.
+    /// Tables.
     Tables,
-    /// Memories: 100.
+    /// Memories.
     Memories,
-    /// Tags: 1,000.
+    /// Tags.
     Tags,
-    /// Globals: 100,000.
+    /// Globals.
     Globals,
-    /// Exports: 100,000.
+    /// Exports.
     Exports,
-    /// Element segments: 100,000.
+    /// Element segments.
     Elements,
-    /// Data segments: 100,000.
+    /// Data segments.
     Segments,
-    /// Parameters of a function type: 1,000.
+    /// Parameters of a function type.
     Parameters,
-    /// Results of a function type: 1,000.
+    /// Results of a function type.
     Results,
-    /// Locals of a function, the parameters not counted: 50,000.
+    /// Locals of a function, the parameters not counted.
     Locals,
-    /// Words that carry the values of a tag's exceptions: 64.
+    /// Words that carry the values of a tag's exceptions.
     Payload,
-    /// Instructions that hold code in one another: 800.
+    /// Instructions that hold code in one another.
     Nesting,
+}
+
+impl Kind {
+    /// The word for it.
+    pub fn word(self) -> &'static str
+        ensures word { result.now ≡ word_of self }
+        ensures short { length result.now ≤ 10 }
+    {
+        match self {
+            Kind::Types => "types",
+            Kind::Imports => "imports",
+            Kind::Functions => "functions",
+            Kind::Tables => "tables",
+            Kind::Memories => "memories",
+            Kind::Tags => "tags",
+            Kind::Globals => "globals",
+            Kind::Exports => "exports",
+            Kind::Elements => "elements",
+            Kind::Segments => "segments",
+            Kind::Parameters => "parameters",
+            Kind::Results => "results",
+            Kind::Locals => "locals",
+            Kind::Payload => "payload",
+            Kind::Nesting => "nesting",
+        }
+    }
+}
+
+impl fmt::Display for Kind {
+    ghost output = { λ kind. Some (word_of kind) };
+
+    fn fmt<W: fmt::Write>(&self, f: &mut fmt::Formatter<W>) -> fmt::Result {
+        let word = self.word();
+        write!(f, "{word}")
+    }
 }

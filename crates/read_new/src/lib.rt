@@ -3,13 +3,10 @@
 //! `specs/Spells.antt` says which bytes spell a module, in three levels: the frame of sections, the payload of each
 //! section by the forms of `specs/Parts.antt`, and each body by those of `specs/Bodies.antt`. `specs/Limits.antt` has
 //! the limits, and `specs/Reads.antt` says what each answer means. A reader in `parts` gives what its form reads.
-//! `specs/Typing.antt` has the rules by which code is typed, and `specs/Core.antt` says what a core module is.
 #![tactic(auto)]
 
 mod bodies;
 mod building;
-mod core_file;
-mod core_module;
 mod counts;
 mod fault;
 mod kind;
@@ -20,13 +17,10 @@ mod payload;
 mod reading;
 mod sections;
 mod sizes;
-mod typing;
 
-pub use core_file::is_core_file;
 pub use fault::ReadFault;
 pub use kind::Kind;
 pub use reading::read;
-pub use typing::is_typed;
 
 #[cfg(test)]
 mod tests;

@@ -338,38 +338,3 @@ fn open_blocks_are_no_body(rt: HostRuntime) -> Result<(), Fail> {
     assert_eq!(rt; outcome_of(alloc, blocks.as_slice())?, Outcome::Body(0));
     Ok(())
 }
-
-#[test]
-fn core_files_and_others(rt: HostRuntime) -> Result<(), Fail> {
-    let alloc = rt.alloc();
-    let plain: &[u8] =
-        b"\x01\x06\x01\x60\x01\x7F\x01\x7F\x03\x02\x01\x00\x07\x05\x01\x01f\x00\x00\x0A\x07\x01\x05\x00\x20\x00\xC0\x0B";
-    let custom: &[u8] =
-        b"\x00\x02\x01a\x01\x06\x01\x60\x01\x7F\x01\x7F\x03\x02\x01\x00\x07\x05\x01\x01f\x00\x00\x0A\x07\x01\x05\x00\x20\x00\xC0\x0B";
-    let group: &[u8] =
-        b"\x01\x06\x01\x60\x01\x7F\x01\x7F\x03\x02\x01\x00\x07\x05\x01\x01f\x00\x00\x0A\x09\x01\x07\x01\x00\x7F\x20\x00\xC0\x0B";
-    let wide: &[u8] =
-        b"\x01\x06\x01\x60\x01\x7F\x01\x7F\x03\x02\x01\x00\x07\x05\x01\x01f\x00\x00\x0A\x07\x01\x05\x00\x20\x00\xC2\x0B";
-    let reserved: &[u8] =
-        b"\x01\x06\x01\x60\x01\x7F\x01\x7F\x03\x02\x01\x00\x07\x0B\x01\x07lower.f\x00\x00\x0A\x07\x01\x05\x00\x20\x00\xC0\x0B";
-    let rows = [
-        ("plain", plain, true),
-        ("custom section", custom, false),
-        ("group of no locals", group, false),
-        ("i64.extend8_s", wide, false),
-        ("reserved name", reserved, false),
-    ];
-    for (what, sections, expected) in rows {
-        let file = file_of(alloc, sections)?;
-        assert!(rt; is_core(alloc, file.as_slice())? == expected, "{what}");
-    }
-    Ok(())
-}
-
-fn is_core(alloc: Global, file: &[u8]) -> Result<bool, Fail> {
-    let file = within_limit(file).ok_or("too long a file")?;
-    match read(alloc, file) {
-        Ok(m) => Ok(is_core_file(alloc, file, &m)?),
-        Err(_) => Err(Fail::from("no module")),
-    }
-}

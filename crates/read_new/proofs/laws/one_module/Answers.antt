@@ -1,4 +1,3 @@
-use Rattle.read_new.proofs.CoreFiles.{core_is_read}
 use Rattle.read_new.proofs.OneAnswer.{one_grammar, one_answer}
 use Rattle.read_new.proofs.laws.one_module.Goals as goal
 
@@ -7,6 +6,3 @@ returns-clause-modules c = λ b m o h k. one_grammar b m o h.grammar k.grammar
 
 pub returns-clause-answers : goal.returns-clause-answers
 returns-clause-answers c = one_answer
-
-pub returns-clause-core : goal.returns-clause-core
-returns-clause-core c = core_is_read
