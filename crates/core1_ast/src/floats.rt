@@ -38,9 +38,7 @@ fn some_float(types: &[Ty1]) -> bool
 fn types_have(types: &[FuncType1]) -> bool
     ensures { result ≡ list_any type_has_float types.now }
 {
-    types
-        .iter()
-        .any(|ty| some_float(ty.params.as_slice()) || some_float(ty.results.as_slice()))
+    types.iter().any(|ty| some_float(ty.params.as_slice()) || some_float(ty.results.as_slice()))
 }
 
 fn imports_have(imports: &[Import1]) -> bool
@@ -61,9 +59,7 @@ fn import_has(desc: ImportDesc1) -> bool
 fn globals_have(globals: &[Global1]) -> bool
     ensures { result ≡ list_any (λ g. is_float g.ty || code_has_float g.init) globals.now }
 {
-    globals
-        .iter()
-        .any(|global| is_float(global.ty) || code_has(global.init.as_slice()))
+    globals.iter().any(|global| is_float(global.ty) || code_has(global.init.as_slice()))
 }
 
 fn elements_have(elements: &[Element1]) -> bool
@@ -77,9 +73,7 @@ fn elements_have(elements: &[Element1]) -> bool
 fn bodies_have(bodies: &[Body1]) -> bool
     ensures { result ≡ list_any body_has_float bodies.now }
 {
-    bodies
-        .iter()
-        .any(|body| some_float(body.locals.as_slice()) || code_has(body.code.as_slice()))
+    bodies.iter().any(|body| some_float(body.locals.as_slice()) || code_has(body.code.as_slice()))
 }
 
 fn segments_have(segments: &[Segment1]) -> bool

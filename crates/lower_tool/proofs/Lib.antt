@@ -1,11 +1,8 @@
 pub mod Arrows
 pub mod CoreFiles
-pub mod HeldLemmas
 pub mod Image
 pub mod KnownLemmas
 pub mod Linked
-pub mod MemoryLemmas
-pub mod PairLemmas
 pub mod Refusals
 pub mod SameEvents
 pub mod Shown

@@ -17,9 +17,13 @@ default_captures = 4096
 unfoldable pub IsCoreFile : List ℕ → Type 0
 IsCoreFile bytes = (m : Module) × SpellsCore bytes m
 
--- The second are the bytes of a lowering of the first, for a store of so many captured exceptions: they spell a
--- module that the rules of 1.0 type, that the meaning of 1.0 covers, that is linked as the first is, and that shows what
--- the first shows, with at most 4 d + 16 live frames.
+-- The bytes are those of a lowering of the module, for a store of so many captured exceptions: they spell a module that
+-- the rules of 1.0 type, that the meaning of 1.0 covers, that is linked as the first is, and that shows what the first
+-- shows, with at most 4 d + 16 live frames.
+abbrev pub IsWrittenFor : ℕ → Module → List ℕ → Type 0
+IsWrittenFor captures m written =
+    (m1 : Module1) × Spells1 written m1 × Typed1 m1 × IsCovered m1 × SameInterface m m1 × Same 4 16 m m1 captures
+
+-- the second are the bytes of a lowering of the core module that the first spell
 abbrev pub Lowers : ℕ → List ℕ → List ℕ → Type 0
-Lowers captures bytes written =
-    (m : Module) × (m1 : Module1) × SpellsCore bytes m × Spells1 written m1 × Typed1 m1 × IsCovered m1 × SameInterface m m1 × Same 4 16 m m1 captures
+Lowers captures bytes written = (m : Module) × SpellsCore bytes m × IsWrittenFor captures m written

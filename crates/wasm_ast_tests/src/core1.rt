@@ -127,22 +127,26 @@ fn put_element(alloc: Global, m: &mut Module1, is_float: bool) -> Result<(), All
     let offset = leaf(alloc, is_float)?;
     let items = one(alloc, 0)?;
     let table = 0;
-    Ok(m.elems.push(Element1 {
-        table,
-        offset,
-        items,
-    })?)
+    Ok(
+        m.elems.push(Element1 {
+            table,
+            offset,
+            items,
+        })?,
+    )
 }
 
 fn put_data(alloc: Global, m: &mut Module1, is_float: bool) -> Result<(), AllocError> {
     let offset = leaf(alloc, is_float)?;
     let bytes = Bytes::new(alloc);
     let memory = 0;
-    Ok(m.datas.push(Segment1 {
-        memory,
-        offset,
-        bytes,
-    })?)
+    Ok(
+        m.datas.push(Segment1 {
+            memory,
+            offset,
+            bytes,
+        })?,
+    )
 }
 
 fn put_body(alloc: Global, m: &mut Module1, place: Place) -> Result<(), AllocError> {
