@@ -10,7 +10,7 @@ use Rattle.wasm_frame.specs.Leb128.{u32}
 use Rattle.core1_bytes.specs.declared.body.LocalGroup1.{LocalGroup1}
 use Rattle.core1_bytes.specs.Nesting.{depth}
 use Rattle.core1_bytes.specs.Types.{value_type}
-use Rattle.core1_bytes.specs.Instructions.{token, has_arms, build}
+use Rattle.core1_bytes.specs.Tokens.{token, has_arms, build}
 
 -- "Expressions"
 unfoldable pub expr : Form (List Instr1)

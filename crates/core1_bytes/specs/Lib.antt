@@ -1,8 +1,7 @@
-pub mod Choice
 pub mod Types
 pub mod Operators
 pub mod Instructions
-pub mod Opcodes
+pub mod Tokens
 pub mod Parts
 pub mod Bodies
 pub mod Nesting

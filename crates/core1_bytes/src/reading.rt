@@ -2,14 +2,20 @@
 
 mod bodies;
 mod code;
+mod instructions;
 mod measures;
 mod module;
+mod named;
 mod numbers;
-mod operators;
 mod parts;
 mod sections;
-mod tokens;
 mod types;
 mod walks;
 
+pub use bodies::{BodyEntry, GroupEntry};
+pub use instructions::IndexEntry;
 pub use module::read1;
+pub use parts::{
+    ElementEntry, ExportEntry, GlobalEntry, ImportEntry, MemoryEntry, SegmentEntry, TableEntry,
+};
+pub use types::{TypeEntry, ValueTypeEntry};

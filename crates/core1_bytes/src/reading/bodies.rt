@@ -18,7 +18,7 @@ use wasm_frame::names::split_byte_vector;
 use wasm_frame::numbers::split_u32;
 
 /// A group of locals as an entry.
-struct GroupEntry;
+pub struct GroupEntry;
 
 impl Entry for GroupEntry {
     type Value = LocalGroup1;

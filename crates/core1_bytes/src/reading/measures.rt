@@ -13,7 +13,7 @@ ghost use Rattle.core1_bytes.specs.Parts.{import, global, element, segment};
 
 use super::code::measure_expr;
 use super::parts::split_import_desc;
-use super::tokens::IndexEntry;
+use super::instructions::IndexEntry;
 use super::types::{ValueTypeEntry, split_global_type};
 use core1_ast::module::{Element1, FuncType1, Global1, Import1, ImportDesc1, Segment1};
 use grammar_kit::{Dropped, FormError, Measure, measure_many, read_byte};

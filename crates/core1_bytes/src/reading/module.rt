@@ -18,7 +18,7 @@ use super::parts::{
     ElementEntry, ExportEntry, GlobalEntry, ImportEntry, MemoryEntry, SegmentEntry, TableEntry,
 };
 use super::sections::Payloads1;
-use super::tokens::IndexEntry;
+use super::instructions::IndexEntry;
 use super::types::TypeEntry;
 use super::walks::{BodyExtent, Walk, measure_bodies};
 use crate::fault::ReadFault;

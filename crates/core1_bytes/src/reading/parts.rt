@@ -6,7 +6,7 @@ ghost use Rattle.core1_bytes.specs.Types.{limits, table_type};
 ghost use Rattle.core1_bytes.specs.Parts.{import_desc, import, global, export_desc, export, element, segment};
 
 use super::code::read_expr;
-use super::tokens::IndexEntry;
+use super::instructions::IndexEntry;
 use super::types::{read_list, split_global_type, split_limits, split_table_type};
 use core1_ast::module::{
     Element1, Export1, ExportDesc1, Global1, Import1, ImportDesc1, Limits1, Segment1,

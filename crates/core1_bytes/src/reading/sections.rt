@@ -7,7 +7,7 @@ use super::measures::{
     ElementMeasure, FunctionImports, GlobalMeasure, ParameterCounts, SegmentMeasure, TextMeasure,
 };
 use super::parts::{ExportEntry, MemoryEntry, TableEntry};
-use super::tokens::IndexEntry;
+use super::instructions::IndexEntry;
 use grammar_kit::Dropped;
 use std::alloc::{AllocError, Global};
 use wasm_frame::names::is_custom;
