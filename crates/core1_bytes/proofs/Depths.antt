@@ -18,7 +18,7 @@ use Rattle.nested_code.specs.Sizes.{IsDepth, IsOccurrence, sizes}
 use Rattle.nested_code.proofs.Leaves.{Only, only_rules, IsLeaf}
 use Rattle.core1_bytes.specs.declared.head.Head1.{Head1}
 use Rattle.core1_bytes.specs.declared.head.Head1.TheVariants as heads
-use Rattle.core1_bytes.specs.Choice.{choice}
+use Rattle.grammar_kit.specs.Choice.{choice}
 use Rattle.core1_bytes.specs.Instructions.{structure, br_table, jump, transfer, variable, other_memory, memory, constant, operator, simple, token, has_arms, build}
 use Rattle.core1_ast.specs.declared.module.code.Instr1.TheOpen.{Instr1-F}
 use Rattle.core1_ast.specs.declared.module.code.Instr1.TheFolds.{map-Instr1, fold-roll-Instr1, fold_out-Instr1}

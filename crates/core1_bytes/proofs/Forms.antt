@@ -10,15 +10,14 @@ use Rattle.core1_bytes.specs.Types.{value_type, block_type, func_type, limits, t
 use Rattle.core1_bytes.specs.Instructions.{structure, br_table, jump, transfer, variable, mem_arg, other_memory, memory, constant, operator, simple, token, has_arms, build}
 use Rattle.core1_bytes.specs.Bodies.{expr, local_group, body_with, body}
 use Rattle.core1_bytes.specs.Parts.{import_desc, import, global, export_desc, export, element, segment, type_section, import_section, func_section, table_section, memory_section, global_section, export_section, start_section, element_section, code_section, data_section}
-use Rattle.core1_bytes.proofs.Choices.{exact_choice}
 
 pub exact_value_type : Exact value_type
 unfolding value_type
-exact_value_type = search (exact_rules, exact_choice) depth 12
+exact_value_type = search exact_rules depth 12
 
 pub exact_block_type : Exact block_type
 unfolding block_type
-exact_block_type = search (exact_rules, exact_choice) depth 12
+exact_block_type = search exact_rules depth 12
 
 pub exact_func_type : Exact func_type
 unfolding func_type
@@ -70,7 +69,7 @@ exact_other_memory k = search (exact_rules, exact_mem_arg) depth 16
 
 exact_memory : (k : ℕ) → Exact (memory k)
 unfolding memory
-exact_memory k = search (exact_rules, exact_choice, exact_mem_arg, exact_other_memory) depth 16
+exact_memory k = search (exact_rules, exact_mem_arg, exact_other_memory) depth 16
 
 exact_constant : (k : ℕ) → Exact (constant k)
 unfolding constant
@@ -78,7 +77,7 @@ exact_constant k = search (exact_rules, exact_s32, exact_s64) depth 16
 
 exact_operator : (k : ℕ) → Exact (operator k)
 unfolding operator
-exact_operator k = search (exact_rules, exact_choice) depth 12
+exact_operator k = search exact_rules depth 12
 
 exact_simple : (k : ℕ) → Exact (simple k)
 unfolding simple

@@ -13,7 +13,7 @@ use Rattle.nested_code.specs.declared.token.Token.TheVariants.{Plain, Open, Else
 use Rattle.wasm_frame.specs.Leb128.{u32, s32, s64}
 use Rattle.core1_bytes.specs.declared.head.Head1.{Head1}
 use Rattle.core1_bytes.specs.declared.head.Head1.TheVariants as heads
-use Rattle.core1_bytes.specs.Choice.{choice}
+use Rattle.grammar_kit.specs.Choice.{choice}
 use Rattle.core1_bytes.specs.Types.{block_type}
 use Rattle.core1_bytes.specs.Operators.{operator_of, is_float, is_float_access, load_of, store_of}
 

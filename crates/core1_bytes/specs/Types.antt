@@ -9,7 +9,7 @@ use Rattle.core1_ast.specs.declared.module.ty.Limits1.{Limits1}
 use Rattle.core1_ast.specs.Spaces.{GlobalType}
 use Rattle.grammar_kit.specs.Form.{Form, never, always, byte, when, ◌>>=◌, vector}
 use Rattle.wasm_frame.specs.Leb128.{u32}
-use Rattle.core1_bytes.specs.Choice.{choice}
+use Rattle.grammar_kit.specs.Choice.{choice}
 
 -- "Value Types": the type with this byte
 abbrev pub type_of : ℕ → Option Ty1

@@ -13,7 +13,7 @@ use core1_ast::module::{FloatImmediates1, Instr1, MemArg1, Op1};
 use grammar_kit::{Entry, FormError, read_byte};
 use nested_code::Token;
 use std::alloc::Global;
-use wasm_frame::numbers::{split_s32, split_s64, split_u32};
+use wasm_frame::leb128::{split_s32, split_s64, split_u32};
 
 /// What code is made of.
 pub type Token1 = Token<Instr1, Head1>;

@@ -16,7 +16,7 @@ use crate::head::Head1;
 use core1_ast::module::{BlockType1, Code1, Instr1, MemArg1, Op1};
 use num_core::lists::Bytes;
 use std::alloc::AllocError;
-use wasm_frame::numbers::{put_s32, put_s64};
+use wasm_frame::leb128::{put_s32, put_s64};
 
 /// The byte between the two arms of an if.
 const ELSE: u8 = 0x05;

@@ -7,7 +7,7 @@ ghost use Rattle.core1_bytes.specs.Appends.{Appends};
 
 use num_core::lists::Bytes;
 use std::alloc::AllocError;
-use wasm_frame::numbers::put_u32;
+use wasm_frame::leb128::put_u32;
 
 /// A value that the binary format can spell.
 pub trait Written {
