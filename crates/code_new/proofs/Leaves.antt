@@ -13,14 +13,14 @@ use Rattle.wasm_ast.specs.declared.module.code.Instr.TheFolds.{map-Instr, fold_o
 use Rattle.wasm_ast.specs.Occurrence.{inside, some, some_in}
 use Rattle.wasm_ast.proofs.Bodies.{some-out}
 use Rattle.grammar_kit.specs.Form.{Form}
+use Rattle.grammar_kit.specs.Choice.{given, given_or}
 use Rattle.nested_code.specs.declared.token.Token.{Token}
 use Rattle.nested_code.specs.declared.token.Token.TheVariants.{Plain}
 use Rattle.nested_code.proofs.Leaves.{Only, only_never, only_always, only_when, only_rules, IsLeaf}
 use Rattle.code_new.specs.declared.head.Head.{Head}
-use Rattle.code_new.specs.Immediates.{given}
 use Rattle.code_new.specs.Instructions.{plain_of, float_operator, or_else, numeric_of, jump_of, variable_of, bulk_of, indirect_of, transfer_of, br_table, select_typed, access_of, access, size_of, constant, reference, saturating_or_bulk, behind_fc}
 use Rattle.code_new.specs.Vectors.{lane_instr, float_lanes, named_or_float, behind_fd}
-use Rattle.code_new.specs.Tokens.{plain, given_or, control_at, instr_at, head_at, token_at, token}
+use Rattle.code_new.specs.Tokens.{plain, control_at, instr_at, head_at, token_at, token}
 use Rattle.code_new.specs.Code.{depth, depth_step, is_data_use, uses_data}
 
 module _ {X : Type 0} (P : X → Type 0) where

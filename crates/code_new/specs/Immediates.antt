@@ -1,15 +1,10 @@
 -- Immediates of instructions: chapter 5 of the standard, "Memory Instructions" and "Control Instructions".
-use Rattle.std.specs.Prelude.{ℕ, ◌-◌, ◌==◌, nat_lt, Option, Some, None}
+use Rattle.std.specs.Prelude.{ℕ, ◌-◌, ◌==◌, nat_lt}
 use Rattle.wasm_ast.specs.declared.module.immediates.MemArg.{MemArg}
 use Rattle.wasm_ast.specs.declared.module.immediates.Catch.{Catch}
 use Rattle.wasm_ast.specs.declared.module.immediates.Catch.TheVariants.{Tag, TagRef, All, AllRef}
 use Rattle.grammar_kit.specs.Form.{Form, never, always, byte, when, ◌>>=◌}
 use Rattle.wasm_frame.specs.Leb128.{u32, u64}
-
--- no bytes at all spell the value, where there is one
-abbrev pub given : {X : Type 0} → Option X → Form X
-given (Some x) = always x
-given None = never
 
 -- an offset, in an access to this memory with this alignment
 unfoldable pub offset_at : ℕ → ℕ → Form MemArg

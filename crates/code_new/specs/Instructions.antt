@@ -10,8 +10,9 @@ use Rattle.wasm_ast.specs.declared.module.code.Instr.{Instr}
 use Rattle.wasm_ast.specs.declared.module.code.Instr.TheVariants as instrs
 use Rattle.grammar_kit.specs.Form.{Form, never, always, raw, when, ◌>>=◌, vector}
 use Rattle.wasm_frame.specs.Leb128.{u32, s32, s64}
-use Rattle.code_new.specs.Types.{heap_type, val_type}
-use Rattle.code_new.specs.Immediates.{given, mem_arg}
+use Rattle.code_new.specs.Types.{heap_type, value_type}
+use Rattle.grammar_kit.specs.Choice.{given}
+use Rattle.code_new.specs.Immediates.{mem_arg}
 use Rattle.code_new.specs.Operators.{operator_of, load_of, store_of, is_float_access, is_float_operator, between}
 
 -- ---- without immediates
@@ -107,7 +108,7 @@ br_table = vector u32 u32 >>= λ labels. u32 >>= λ last. always (instrs.BrTable
 
 -- "Parametric Instructions"
 unfoldable pub select_typed : Form Instr
-select_typed = vector u32 val_type >>= λ types. always (instrs.SelectTyped types)
+select_typed = vector u32 value_type >>= λ types. always (instrs.SelectTyped types)
 
 -- ---- "Memory Instructions"
 

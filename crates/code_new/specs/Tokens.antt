@@ -1,23 +1,19 @@
 -- What code is made of, by the first byte: chapter 5 of the standard, "Instructions". An instruction that holds code is its
 -- opcode and immediates here, and the code follows in tokens of its own.
-use Rattle.std.specs.Prelude.{ℕ, ◌==◌, ◌||◌, Bool, true, false, nat_lt, List, Option, Some, None}
+use Rattle.std.specs.Prelude.{ℕ, ◌==◌, ◌||◌, Bool, true, false, nat_lt, List, Option}
 use Rattle.wasm_ast.specs.declared.module.code.Instr.{Instr}
 use Rattle.wasm_ast.specs.declared.module.code.Instr.TheVariants as instrs
 use Rattle.grammar_kit.specs.Form.{Form, always, byte, when, ◌>>=◌, vector}
+use Rattle.grammar_kit.specs.Choice.{given, given_or}
 use Rattle.wasm_frame.specs.Leb128.{u32}
 use Rattle.nested_code.specs.declared.token.Token.{Token}
 use Rattle.nested_code.specs.declared.token.Token.TheVariants.{Plain, Open, Else, End}
 use Rattle.code_new.specs.declared.head.Head.{Head}
 use Rattle.code_new.specs.declared.head.Head.TheVariants.{Block, Loop, If, TryTable}
 use Rattle.code_new.specs.Types.{block_type}
-use Rattle.code_new.specs.Immediates.{given, clause}
+use Rattle.code_new.specs.Immediates.{clause}
 use Rattle.code_new.specs.Instructions.{plain_of, numeric_of, jump_of, variable_of, indexed, indirect_of, twice_indexed, br_table, select_typed, access, size_of, constant, reference, behind_fc}
 use Rattle.code_new.specs.Vectors.{behind_fd}
-
--- no bytes at all spell the value, where there is one, and else the form
-abbrev pub given_or : {X : Type 0} → Option X → Form X → Form X
-given_or (Some x) f = always x
-given_or None f = f
 
 -- an opcode below 20 of an instruction that holds no code
 unfoldable pub control_at : ℕ → Form Instr

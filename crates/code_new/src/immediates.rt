@@ -3,16 +3,16 @@
 ghost use Rattle.grammar_kit.specs.Form.{raw, many, vector};
 ghost use Rattle.grammar_kit.specs.Gives.{Gives, GivesOption};
 ghost use Rattle.wasm_frame.specs.Leb128.{u32};
-ghost use Rattle.code_new.specs.Types.{val_type};
+ghost use Rattle.code_new.specs.Types.{value_type};
 ghost use Rattle.code_new.specs.Immediates.{offset_at, mem_arg, clause};
 
-use crate::types::split_val_type;
+use crate::types::split_value_type;
 use grammar_kit::{Entry, FormError, read_byte, read_many};
 use sqlite_items::Items;
 use std::alloc::Global;
 use wasm_ast::lists::Types;
 use wasm_ast::module::{Catch, MemArg};
-use wasm_frame::numbers::{split_u32, split_u64};
+use wasm_frame::leb128::{split_u32, split_u64};
 
 /// The first `N` bytes, and the bytes after them. `None` exactly where there are fewer.
 pub fn read_array<const N: usize>(bytes: &[u8]) -> Option<([u8; N], &[u8])>
@@ -125,12 +125,12 @@ pub fn read_indices(alloc: Global, bytes: &[u8]) -> Result<(Items<u32>, &[u8]), 
 
 /// The first `count` value types, and the bytes after them. Room is taken for one type at a time.
 fn read_many_types(alloc: Global, count: u32, bytes: &[u8]) -> Result<(Types, &[u8]), FormError>
-    ensures { Gives (λ p. (p.0, p.1.now)) result ((many val_type count).read bytes.now) }
+    ensures { Gives (λ p. (p.0, p.1.now)) result ((many value_type count).read bytes.now) }
 {
     let mut types = Types::new(alloc);
     let mut rest = bytes;
     for _ in 0..count {
-        let (ty, after) = split_val_type(rest).ok_or(FormError::Malformed)?;
+        let (ty, after) = split_value_type(rest).ok_or(FormError::Malformed)?;
         types.push(ty)?;
         rest = after;
     }
@@ -138,8 +138,8 @@ fn read_many_types(alloc: Global, count: u32, bytes: &[u8]) -> Result<(Types, &[
 }
 
 /// The list of value types at the front, and the bytes after it ("Vectors" and "Value Types" of the standard).
-pub fn read_val_types(alloc: Global, bytes: &[u8]) -> Result<(Types, &[u8]), FormError>
-    ensures { Gives (λ p. (p.0, p.1.now)) result ((vector u32 val_type).read bytes.now) }
+pub fn read_value_types(alloc: Global, bytes: &[u8]) -> Result<(Types, &[u8]), FormError>
+    ensures { Gives (λ p. (p.0, p.1.now)) result ((vector u32 value_type).read bytes.now) }
 {
     let (count, rest) = split_u32(bytes).ok_or(FormError::Malformed)?;
     read_many_types(alloc, count, rest)

@@ -19,7 +19,7 @@ pub mod types;
 mod vectors;
 
 pub use head::Head;
-pub use immediates::read_val_types;
+pub use immediates::read_value_types;
 pub use token::read_token;
 
 #[cfg(test)]

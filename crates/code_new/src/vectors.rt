@@ -10,7 +10,7 @@ use lane_core::operators::LaneOp;
 use lane_core::vector::V;
 use simd_table::name_of;
 use wasm_ast::module::{FloatCode, FloatImmediates, Instr, Op};
-use wasm_frame::numbers::split_u32;
+use wasm_frame::leb128::split_u32;
 
 /// The immediates of a vector instruction at the front, with the instruction, and the bytes after them.
 #[tactic(auto, unfolding(crate::specs::Vectors::lane_instr))]

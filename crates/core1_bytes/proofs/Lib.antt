@@ -1,4 +1,3 @@
-pub mod Choices
 pub mod Forms
 pub mod Modules
 pub mod Places

@@ -4,12 +4,12 @@ use Rattle.wasm_ast.specs.declared.module.ty.FuncType.{FuncType}
 use Rattle.wasm_ast.specs.declared.module.ty.Limits.{Limits}
 use Rattle.grammar_kit.specs.Form.{Form, never, always, byte, when, ◌>>=◌, vector}
 use Rattle.wasm_frame.specs.Leb128.{u32, u64}
-use Rattle.code_new.specs.Types.{val_type}
+use Rattle.code_new.specs.Types.{value_type}
 
 -- "Function Types"
 unfoldable pub func_type : Form FuncType
 func_type = byte >>= λ b. when (b == 0x60)
-    (vector u32 val_type >>= λ params. vector u32 val_type >>= λ results. always (record { params = params; results = results }))
+    (vector u32 value_type >>= λ params. vector u32 value_type >>= λ results. always (record { params = params; results = results }))
     never
 
 -- how many parameters and results a function type has

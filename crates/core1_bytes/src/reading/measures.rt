@@ -20,7 +20,7 @@ use grammar_kit::{Dropped, FormError, Measure, measure_many, read_byte};
 use num_core::lists::Bytes;
 use std::alloc::Global;
 use wasm_frame::names::{split_byte_vector, split_name};
-use wasm_frame::numbers::split_u32;
+use wasm_frame::leb128::split_u32;
 
 /// The bytes behind the first `count` value types, none of which is kept.
 fn skip_types(alloc: Global, count: u32, bytes: &[u8]) -> Result<&[u8], FormError>

@@ -11,7 +11,7 @@ use super::bodies::{BodySizes, measure_body};
 use grammar_kit::FormError;
 use std::alloc::{AllocError, Global};
 use wasm_frame::names::split_byte_vector;
-use wasm_frame::numbers::split_u32;
+use wasm_frame::leb128::split_u32;
 
 /// How large the bodies of a file are.
 #[derive(Clone, Copy, Debug, PartialEq, Eq)]

@@ -9,14 +9,14 @@ ghost use Rattle.wasm_frame.specs.Name.{byte_vector};
 ghost use Rattle.read_new.specs.Bodies.{local_group, locals_count, locals_of, body, sizes_of};
 
 use code_new::code::{measure_expr, read_expr};
-use code_new::types::split_val_type;
+use code_new::types::split_value_type;
 use grammar_kit::{Entry, FormError, Measure, measure_many, read_many};
 use num_core::lists::Bytes;
 use std::alloc::{AllocError, Global};
 use wasm_ast::lists::Types;
 use wasm_ast::module::{Body, Ty};
+use wasm_frame::leb128::split_u32;
 use wasm_frame::names::split_byte_vector;
-use wasm_frame::numbers::split_u32;
 
 /// Locals of one type ("Code Section" of the standard).
 #[derive(Clone, Copy, Debug, PartialEq, Eq)]
@@ -38,7 +38,7 @@ impl Entry for GroupEntry {
     #[tactic(auto, unfolding(crate::specs::Bodies::local_group))]
     fn entry(_alloc: Global, bytes: &[u8]) -> Result<(LocalGroup, &[u8]), FormError> {
         let (count, rest) = split_u32(bytes).ok_or(FormError::Malformed)?;
-        let (ty, rest) = split_val_type(rest).ok_or(FormError::Malformed)?;
+        let (ty, rest) = split_value_type(rest).ok_or(FormError::Malformed)?;
         Ok((LocalGroup { count, ty }, rest))
     }
 }

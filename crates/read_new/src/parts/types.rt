@@ -3,15 +3,15 @@ ghost use Rattle.grammar_kit.specs.Form.{vector, many};
 ghost use Rattle.grammar_kit.specs.Gives.{Gives};
 ghost use Rattle.grammar_kit.specs.Measures.{through};
 ghost use Rattle.wasm_frame.specs.Leb128.{u32};
-ghost use Rattle.code_new.specs.Types.{val_type};
+ghost use Rattle.code_new.specs.Types.{value_type};
 ghost use Rattle.read_new.specs.Types.{func_type, counts};
 
-use code_new::read_val_types;
-use code_new::types::split_val_type;
+use code_new::read_value_types;
+use code_new::types::split_value_type;
 use grammar_kit::{Dropped, Entry, FormError, Measure, measure_many, read_byte};
 use std::alloc::Global;
 use wasm_ast::module::{FuncType, Ty};
-use wasm_frame::numbers::split_u32;
+use wasm_frame::leb128::split_u32;
 
 /// A value type as an entry.
 struct ValTypeEntry;
@@ -19,24 +19,24 @@ struct ValTypeEntry;
 impl Entry for ValTypeEntry {
     type Value = Ty;
 
-    ghost form = { val_type };
+    ghost form = { value_type };
 
     fn entry(_alloc: Global, bytes: &[u8]) -> Result<(Ty, &[u8]), FormError> {
-        split_val_type(bytes).ok_or(FormError::Malformed)
+        split_value_type(bytes).ok_or(FormError::Malformed)
     }
 }
 
 /// The bytes behind the first `count` value types, none of which is kept.
 fn skip_types(alloc: Global, count: u32, bytes: &[u8]) -> Result<&[u8], FormError>
-    ensures { Gives (λ r. (count, r.now)) result (through length ((many val_type count).read bytes.now)) }
+    ensures { Gives (λ r. (count, r.now)) result (through length ((many value_type count).read bytes.now)) }
 {
     let (_, rest) = measure_many::<Dropped<ValTypeEntry>>(alloc, count, bytes)?;
     Ok(rest)
 }
 
 /// How many value types the vector at the front has, and the bytes after it.
-fn count_val_types(alloc: Global, bytes: &[u8]) -> Result<(u32, &[u8]), FormError>
-    ensures { Gives (λ p. (p.0, p.1.now)) result (through length ((vector u32 val_type).read bytes.now)) }
+fn count_value_types(alloc: Global, bytes: &[u8]) -> Result<(u32, &[u8]), FormError>
+    ensures { Gives (λ p. (p.0, p.1.now)) result (through length ((vector u32 value_type).read bytes.now)) }
 {
     let (count, rest) = split_u32(bytes).ok_or(FormError::Malformed)?;
     let rest = skip_types(alloc, count, rest)?;
@@ -55,8 +55,8 @@ impl Entry for TypeEntry {
     fn entry(alloc: Global, bytes: &[u8]) -> Result<(FuncType, &[u8]), FormError> {
         match read_byte(bytes) {
             Some((0x60, rest)) => {
-                let (params, rest) = read_val_types(alloc, rest)?;
-                let (results, rest) = read_val_types(alloc, rest)?;
+                let (params, rest) = read_value_types(alloc, rest)?;
+                let (results, rest) = read_value_types(alloc, rest)?;
                 Ok((FuncType { params, results }, rest))
             }
             _ => Err(FormError::Malformed),
@@ -71,8 +71,8 @@ fn count_func_type(alloc: Global, bytes: &[u8]) -> Result<(u32, u32, &[u8]), For
 {
     match read_byte(bytes) {
         Some((0x60, rest)) => {
-            let (params, rest) = count_val_types(alloc, rest)?;
-            let (results, rest) = count_val_types(alloc, rest)?;
+            let (params, rest) = count_value_types(alloc, rest)?;
+            let (results, rest) = count_value_types(alloc, rest)?;
             Ok((params, results, rest))
         }
         _ => Err(FormError::Malformed),

@@ -1,6 +1,6 @@
 use Rattle.std.proofs.Common.{◌≡◌, ℕ, ◌+◌, ◌*◌, ◌^◌, ◌<◌, List, ◌++◌, length}
 use Rattle.wasm_frame.specs.Leb128.{IsShortest}
-use Rattle.wasm_frame.proofs.numbers.writing.shortest.Given as goal
+use Rattle.wasm_frame.proofs.leb128.writing.shortest.Given as goal
 
 -- what spells the rest completes the number
 abbrev pub invariant-loop-byte : goal.invariant-loop-byte

@@ -1,6 +1,6 @@
 // What holds of the spellings of numbers, whatever reads or writes them.
 ghost use Rattle.std.specs.Prelude.{◌≡◌, ℕ, ◌+◌, ◌*◌, ◌<◌, ◌^◌, List, ◌++◌, length, ℤ};
-ghost use Rattle.wasm_frame.specs.declared.numbers.Sign.{Sign};
+ghost use Rattle.wasm_frame.specs.declared.leb128.Sign.{Sign};
 ghost use Rattle.wasm_frame.specs.Leb128.{Leb, IsShortest};
 ghost use Rattle.wasm_frame.specs.Signed.{bits_of, FitsBits};
 

@@ -2,7 +2,7 @@ use Rattle.std.proofs.Common.{◌+◌, ◌%◌, ◌<◌, [], ◌∷◌, append_a
 use Rattle.std.proofs.lemmas.List.{length-append}
 use Rattle.wasm_frame.proofs.Powers.{seven_more}
 use Rattle.wasm_frame.proofs.Spelling.{shortest_last, shortest_more, wide_without_last}
-use Rattle.wasm_frame.proofs.numbers.writing.shortest.Goals as goal
+use Rattle.wasm_frame.proofs.leb128.writing.shortest.Goals as goal
 
 pub returns-in-Some : goal.returns-in-Some
 returns-in-Some c =

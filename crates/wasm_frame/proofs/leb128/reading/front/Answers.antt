@@ -1,5 +1,5 @@
 use Rattle.wasm_frame.proofs.Front.{rest_within, read_at_front, none_at_front}
-use Rattle.wasm_frame.proofs.numbers.reading.front.Goals as goal
+use Rattle.wasm_frame.proofs.leb128.reading.front.Goals as goal
 
 pub returns-in_err-bits-clause-none : goal.returns-in_err-bits-clause-none
 returns-in_err-bits-clause-none c =
