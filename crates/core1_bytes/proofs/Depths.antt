@@ -4,7 +4,6 @@ use Rattle.core1_ast.specs.declared.module.ty.BlockType1.{BlockType1}
 use Rattle.std.specs.List.{list_any}
 use Rattle.core1_ast.specs.declared.module.immediates.MemArg1.{MemArg1}
 use Rattle.core1_ast.specs.declared.module.code.Instr1.{Instr1, out-Instr1}
-use Rattle.core1_ast.specs.declared.module.code.Instr1.TheVariants as instrs
 use Rattle.std.specs.Prelude.{IfSome, option_map}
 use Rattle.std.proofs.lemmas.Option.{some_pair_parts}
 use Rattle.grammar_kit.specs.declared.error.FormError.{FormError}
@@ -112,8 +111,11 @@ unfolding instr_at
 only_instr_at k = search (only_rules, variable_leaf, only_access, only_size, only_constant, numeric_leaf) depth 16
 
 -- what opens code is no instruction by itself
-opened_leaf : (k : ℕ) (t : BlockType1) → IfSome (option_map {B = Token1} Open (head_of k t)) (IsLeaf IsFlat)
-opened_leaf k t = if_mapped Open (head_of k t) (IsLeaf IsFlat) (λ h. tt)
+abbrev as_open : Head1 → Token1
+as_open h = Open h
+
+opened_leaf : (k : ℕ) (t : BlockType1) → IfSome (option_map as_open (head_of k t)) (IsLeaf IsFlat)
+opened_leaf k t = if_mapped as_open (head_of k t) (IsLeaf IsFlat) (λ h. tt)
 
 only_opened : (k : ℕ) → Only (opened k) (IsLeaf IsFlat)
 unfolding opened

@@ -1,6 +1,5 @@
 pub mod Forms
 pub mod Modules
-pub mod Places
 pub mod Appending
 pub mod Instructions
 pub mod Typed

@@ -40,11 +40,27 @@ Both P Q b = (t : List ℕ) × (u : List ℕ) × (b ≡ t ++ u) × P t × Q u
 
 -- an instruction that holds no code and is none on floats
 abbrev pub IsPlain : Instr1 → Type 0
-IsPlain (instrs.Block t code) = ⊥
-IsPlain (instrs.Loop t code) = ⊥
-IsPlain (instrs.If t first second) = ⊥
-IsPlain (instrs.Float k at) = ⊥
-IsPlain _ = Unit {0}
+IsPlain instrs.Unreachable = Unit {0}
+IsPlain instrs.Nop = Unit {0}
+IsPlain (instrs.Br l) = Unit {0}
+IsPlain (instrs.BrIf l) = Unit {0}
+IsPlain (instrs.BrTable ls last) = Unit {0}
+IsPlain instrs.Return = Unit {0}
+IsPlain (instrs.Call x) = Unit {0}
+IsPlain (instrs.CallIndirect t) = Unit {0}
+IsPlain instrs.Drop = Unit {0}
+IsPlain instrs.Select = Unit {0}
+IsPlain (instrs.LocalGet x) = Unit {0}
+IsPlain (instrs.LocalSet x) = Unit {0}
+IsPlain (instrs.LocalTee x) = Unit {0}
+IsPlain (instrs.GlobalGet x) = Unit {0}
+IsPlain (instrs.GlobalSet x) = Unit {0}
+IsPlain (instrs.Load op at) = Unit {0}
+IsPlain (instrs.Store op at) = Unit {0}
+IsPlain instrs.MemorySize = Unit {0}
+IsPlain instrs.MemoryGrow = Unit {0}
+IsPlain (instrs.Pure op) = Unit {0}
+IsPlain _ = ⊥
 
 -- the constant behind the opcode of an instruction that touches no state; others have none
 abbrev pub Constant : Op1 → List ℕ → Type 0

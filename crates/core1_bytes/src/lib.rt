@@ -20,6 +20,3 @@ pub use head::Head1;
 pub use kind::Kind;
 pub use reading::read1;
 pub use writing::write1;
-
-#[cfg(test)]
-mod tests;

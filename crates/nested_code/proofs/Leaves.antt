@@ -47,7 +47,6 @@ if_mapped f (Some y) P h = h y
 if_mapped f None P h = tt
 
 pub if_or : {X : Type 0} (o p : Option X) (P : X → Type 0) → IfSome o P → IfSome p P → IfSome (option_or o p) P
-unfolding option_or
 if_or (Some x) p P h k = h
 if_or None p P h k = k
 
@@ -63,7 +62,10 @@ IsLeaf P Else = Unit {0}
 IsLeaf P End = Unit {0}
 
 -- so it has where a form reads such instructions alone
-pub only_plain : {I H : Type 0} (f : Form I) (P : I → Type 0) → Only f P → Only (f >>= λ i. always (Plain {H = H} i)) (IsLeaf P)
+abbrev as_token : {I H : Type 0} → I → Token I H
+as_token i = Plain i
+
+pub only_plain : {I H : Type 0} (f : Form I) (P : I → Type 0) → Only f P → Only (f >>= λ i. always (as_token {I = I} {H = H} i)) (IsLeaf P)
 only_plain f P h = record {
   holds = λ b x rest e. option_and_then_some _ (f.read b) (x, rest) e (λ q front back.
       subst (λ k. IsLeaf P k) (some_pair_parts (Plain q.0) x q.1 rest back).0 (h.holds b q.0 q.1 front));

@@ -14,8 +14,8 @@ use core1_ast::module::{Body1, Ty1};
 use grammar_kit::{Entry, FormError, Measure, measure_many, read_many};
 use sqlite_items::Items;
 use std::alloc::{AllocError, Global};
-use wasm_frame::names::split_byte_vector;
 use wasm_frame::leb128::split_u32;
+use wasm_frame::names::split_byte_vector;
 
 /// A group of locals as an entry.
 pub struct GroupEntry;

@@ -197,11 +197,7 @@ fn opened(opcode: u8, bytes: &[u8]) -> Option<(Token1, &[u8])>
 
 /// The token with this opcode below 20, with its immediates at the front, and the bytes after them.
 #[tactic(auto, unfolding(crate::specs::Tokens::control_at))]
-fn read_control_at(
-    alloc: Global,
-    opcode: u8,
-    bytes: &[u8],
-) -> Result<(Token1, &[u8]), FormError>
+fn read_control_at(alloc: Global, opcode: u8, bytes: &[u8]) -> Result<(Token1, &[u8]), FormError>
     ensures { Gives (λ p. (p.0, p.1.now)) result ((control_at opcode).read bytes.now) }
 {
     match opcode {

@@ -12,15 +12,15 @@ ghost use Rattle.core1_bytes.specs.Limits.{func_count};
 ghost use Rattle.core1_bytes.specs.Parts.{import, global, element, segment};
 
 use super::code::measure_expr;
-use super::parts::split_import_desc;
 use super::instructions::IndexEntry;
+use super::parts::split_import_desc;
 use super::types::{ValueTypeEntry, split_global_type};
 use core1_ast::module::{Element1, FuncType1, Global1, Import1, ImportDesc1, Segment1};
 use grammar_kit::{Dropped, FormError, Measure, measure_many, read_byte};
 use num_core::lists::Bytes;
 use std::alloc::Global;
-use wasm_frame::names::{split_byte_vector, split_name};
 use wasm_frame::leb128::split_u32;
+use wasm_frame::names::{split_byte_vector, split_name};
 
 /// The bytes behind the first `count` value types, none of which is kept.
 fn skip_types(alloc: Global, count: u32, bytes: &[u8]) -> Result<&[u8], FormError>

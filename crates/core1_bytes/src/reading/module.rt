@@ -10,6 +10,7 @@ ghost use Rattle.core1_bytes.specs.Reads.{Tells, Finds};
 ghost use Rattle.core1_bytes.specs.Steps.{module_at, IsFramed, IsChecked, IsMeasured, Step};
 
 use super::bodies::BodyEntry;
+use super::instructions::IndexEntry;
 use super::measures::{
     ElementMeasure, FunctionImports, GlobalMeasure, ParameterCounts, SegmentMeasure,
 };
@@ -18,7 +19,6 @@ use super::parts::{
     ElementEntry, ExportEntry, GlobalEntry, ImportEntry, MemoryEntry, SegmentEntry, TableEntry,
 };
 use super::sections::Payloads1;
-use super::instructions::IndexEntry;
 use super::types::TypeEntry;
 use super::walks::{BodyExtent, Walk, measure_bodies};
 use crate::fault::ReadFault;

@@ -14,8 +14,8 @@ use core1_ast::module::{
 use grammar_kit::{Entry, FormError, read_byte};
 use num_core::lists::{Bytes, Text};
 use std::alloc::Global;
-use wasm_frame::names::{split_byte_vector, split_name};
 use wasm_frame::leb128::split_u32;
+use wasm_frame::names::{split_byte_vector, split_name};
 
 /// What an import asks for, at the front, and the bytes after it.
 #[tactic(auto, unfolding(crate::specs::Parts::import_desc))]

@@ -3,11 +3,11 @@
 ghost use Rattle.std.specs.Prelude.{◌<◌, ◌≤◌, ◌↔◌, IsTrue, IfOk};
 ghost use Rattle.core1_bytes.specs.Spells.{InGrammar1};
 
+use super::instructions::IndexEntry;
 use super::measures::{
     ElementMeasure, FunctionImports, GlobalMeasure, ParameterCounts, SegmentMeasure, TextMeasure,
 };
 use super::parts::{ExportEntry, MemoryEntry, TableEntry};
-use super::instructions::IndexEntry;
 use grammar_kit::Dropped;
 use std::alloc::{AllocError, Global};
 use wasm_frame::names::is_custom;

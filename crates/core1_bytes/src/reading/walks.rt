@@ -10,8 +10,8 @@ ghost use Rattle.core1_bytes.specs.Walks.{Walks};
 use super::bodies::{BodySizes, measure_body};
 use grammar_kit::FormError;
 use std::alloc::{AllocError, Global};
-use wasm_frame::names::split_byte_vector;
 use wasm_frame::leb128::split_u32;
+use wasm_frame::names::split_byte_vector;
 
 /// How large the bodies of a file are.
 #[derive(Clone, Copy, Debug, PartialEq, Eq)]
