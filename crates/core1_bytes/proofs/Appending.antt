@@ -3,7 +3,7 @@ use Rattle.std.proofs.Common.{◌≡◌, ℕ, zero, suc, List, [], ◌∷◌, �
 use Rattle.std.proofs.lemmas.List.{append-nil}
 use Rattle.std.specs.Prelude.{Result, Ok, Err, OnOk, Option}
 use Rattle.grammar_kit.specs.Form.{Form, always, ◌>>=◌, many}
-use Rattle.core1_bytes.specs.Choice.{OfEntry}
+use Rattle.grammar_kit.specs.Choice.{OfEntry}
 use Rattle.core1_bytes.specs.Appends.{AppendsBy, Appends, Both}
 
 -- a fact on success that follows from another one

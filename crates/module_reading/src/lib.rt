@@ -2,7 +2,9 @@
 #![tactic(auto)]
 
 mod fault;
+mod file;
 mod kind;
 
 pub use fault::ReadFault;
+pub use file::File;
 pub use kind::Kind;
