@@ -1,8 +1,7 @@
 -- Walking over the texts of bodies, one after the other.
-use Rattle.std.proofs.Common.{◌≡◌, ℕ, zero, suc, ◌+◌, ◌-◌, ◌<◌, ◌≤◌, max, Bool, true, false, ◌||◌, List, [], ◌∷◌, ◌++◌, length, Option, Some, None, refl, sym, ap, ◌∙◌, arith}
+use Rattle.std.proofs.Common.{◌≡◌, ℕ, suc, ◌+◌, ◌-◌, ◌<◌, ◌≤◌, Bool, false, List, [], ◌∷◌, ◌++◌, length, Option, Some, None, refl, sym, ap, ◌∙◌, arith}
 use Rattle.std.specs.Prelude.{option_map, unwrap_or}
 use Rattle.std.specs.List.{AllByRecursion, list_any}
-use Rattle.std.proofs.Math.Bool.{or-false}
 use Rattle.std.proofs.lemmas.List.{append-nil, length-append}
 use Rattle.grammar_kit.specs.Form.{many}
 use Rattle.grammar_kit.specs.Measures.{greatest}
@@ -13,7 +12,7 @@ use Rattle.wasm_frame.specs.Payloads.{IsRead, FirstWithout}
 use Rattle.module_reading.specs.declared.bodies.BodyExtent.{BodyExtent}
 use Rattle.module_reading.specs.declared.bodies.Walk.{Walk}
 use Rattle.module_reading.specs.declared.bodies.Walk.TheVariants.{Measured, Misfit}
-use Rattle.module_reading.specs.Bodies.{GoesOn, text_sizes, text_locals, text_nesting, text_names_data, IsExtent, Walks}
+use Rattle.module_reading.specs.Bodies.{GoesOn, text_sizes, text_locals, text_nesting, text_names_data, Walks}
 use Rattle.module_reading.specs.Format.{Format}
 use Rattle.module_reading.specs.Means.{Means}
 use Rattle.module_reading.proofs.Lists.{all_more, first_more, first_behind, greatest_more, any_more}

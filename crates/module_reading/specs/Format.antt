@@ -1,6 +1,6 @@
 -- What tells one version of the binary format from another: chapter 5 of the standard, "Modules". What the versions share
 -- stands in `specs/Spells.antt`.
-use Rattle.std.specs.Prelude.{ℕ, List, Option, Bool}
+use Rattle.std.specs.Prelude.{ℕ, List, Option}
 use Rattle.grammar_kit.specs.Form.{Form}
 use Rattle.wasm_frame.specs.declared.sections.Version.{Version}
 use Rattle.wasm_frame.specs.Frame.{Part}

@@ -1,7 +1,7 @@
 -- By what a version of the format is read. Nothing here has to be believed: the contracts of reading are told by
 -- `specs/Reads.antt`.
 use Rattle.std.specs.Prelude.{◌≡◌, ℕ, List, [], Bool, Option, Some}
-use Rattle.grammar_kit.specs.Form.{Form, vector}
+use Rattle.grammar_kit.specs.Form.{vector}
 use Rattle.grammar_kit.specs.Exact.{Exact}
 use Rattle.grammar_kit.specs.Sequences.{sized}
 use Rattle.wasm_frame.specs.Frame.{Part}

@@ -28,6 +28,10 @@ pub record AreSizesOf {X : Type 0} (f : Form (List X)) (size other : X → ℕ) 
 abbrev pub IsNumber : List ℕ → Sizes → Type 0
 IsNumber payload s = whole (optional.read payload) ≡ Some (Some s.count)
 
+-- the sizes where there is no section
+abbrev pub no_sizes : Sizes
+no_sizes = record { count = 0; greatest = 0; total = 0; second = 0 }
+
 -- the sizes of the first section of an id
 abbrev pub sizes_at : ℕ → List SectionSizes → Option Sizes
 sizes_at id [] = None

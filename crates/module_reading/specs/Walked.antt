@@ -1,5 +1,5 @@
 -- What a walk over the sections of a file has found.
-use Rattle.std.specs.Prelude.{ℕ, List}
+use Rattle.std.specs.Prelude.{List}
 use Rattle.std.specs.List.{AllByRecursion}
 use Rattle.wasm_frame.specs.Frame.{Part, Frame, Whole}
 use Rattle.wasm_frame.specs.Payloads.{payload_of}

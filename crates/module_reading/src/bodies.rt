@@ -116,10 +116,7 @@ fn walk_bodies<F: ModuleFormat>(
 }
 
 /// Over the payload of a code section. `None` where it is not cut into bodies.
-pub fn walk_code<F: ModuleFormat>(
-    alloc: Global,
-    payload: &[u8],
-) -> Result<Option<Walk>, AllocError>
+pub fn walk_code<F: ModuleFormat>(alloc: Global, payload: &[u8]) -> Result<Option<Walk>, AllocError>
     ensures { IfOk result (λ walk. MatchOption walk (¬ (IsRead code_section payload.now)) (IsWalked F.format F.means payload.now)) }
 {
     match split_u32(payload) {

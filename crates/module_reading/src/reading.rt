@@ -23,8 +23,7 @@ pub fn read<F: ModuleFormat>(alloc: Global, b: &[u8]) -> Result<F::Module, ReadF
     ensures tells { Tells F.format b.now result }
     ensures only { UnlessMemory result ((other : Result F.Module ReadFault) → Reads F.format b.now other → other ≡ result) }
 {
-    let file = File::open(alloc, b, F::version())?;
-    read_file::<F>(alloc, &file)
+    read_bytes::<F>(alloc, b)
 }
 
 /// The same of a file whose sections are in place.
@@ -34,6 +33,13 @@ pub fn read_file<F: ModuleFormat>(alloc: Global, file: &File<'_>) -> Result<F::M
     ensures only { UnlessMemory result ((other : Result F.Module ReadFault) → Reads F.format file.now.bytes other → other ≡ result) }
 {
     read_steps::<F>(alloc, file)
+}
+
+fn read_bytes<F: ModuleFormat>(alloc: Global, b: &[u8]) -> Result<F::Module, ReadFault>
+    ensures { Tells F.format b.now result }
+{
+    let file = File::open(alloc, b, F::version())?;
+    read_steps::<F>(alloc, &file)
 }
 
 fn read_steps<F: ModuleFormat>(alloc: Global, file: &File<'_>) -> Result<F::Module, ReadFault>

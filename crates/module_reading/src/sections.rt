@@ -107,13 +107,12 @@ pub fn measure<F: ModuleFormat>(alloc: Global, file: &File<'_>) -> Result<FileSi
     ensures { Step F.format file.now.bytes result (IsMeasured F.format F.means file.now) }
 {
     let walked = walk_sections::<F>(alloc, file)?;
-    let bodies = match walked.bodies {
-        Some(Walk::Measured(bodies)) => bodies,
-        Some(Walk::Misfit(place)) => return Err(ReadFault::Body(place)),
-        None => BodyExtent::NONE,
-    };
-    Ok(FileSizes {
-        sections: walked.sections,
-        bodies,
-    })
+    let walk = walked.bodies.unwrap_or(Walk::Measured(BodyExtent::NONE));
+    match walk {
+        Walk::Measured(bodies) => Ok(FileSizes {
+            sections: walked.sections,
+            bodies,
+        }),
+        Walk::Misfit(place) => Err(ReadFault::Body(place)),
+    }
 }

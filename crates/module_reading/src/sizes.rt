@@ -4,7 +4,7 @@ ghost use Rattle.std.specs.Prelude.{◌≡◌, IfOk, MatchOption, unwrap_or};
 ghost use Rattle.grammar_kit.specs.Form.{vector};
 ghost use Rattle.wasm_frame.specs.Leb128.{u32};
 ghost use Rattle.wasm_frame.specs.Payloads.{IsRead, optional};
-ghost use Rattle.module_reading.specs.Sizes.{AreSizesOf, IsNumber, sizes_at};
+ghost use Rattle.module_reading.specs.Sizes.{AreSizesOf, IsNumber, sizes_at, no_sizes};
 
 use crate::bodies::BodyExtent;
 use grammar_kit::{FormError, Measure};
@@ -68,7 +68,7 @@ impl FileSizes {
 
     /// How large the section of an id is. Where there is none, nothing is there.
     pub fn of(&self, id: u8) -> Sizes
-        ensures { result ≡ unwrap_or (sizes_at id self.now.sections) (record { count = 0; greatest = 0; total = 0; second = 0 }) }
+        ensures { result ≡ unwrap_or (sizes_at id self.now.sections) no_sizes }
     {
         match self.find(id) {
             Some(sizes) => sizes,
@@ -78,10 +78,7 @@ impl FileSizes {
 }
 
 /// How large a payload is that is one vector. `None` where it is none.
-pub fn vector_sizes<M: Measure>(
-    alloc: Global,
-    payload: &[u8],
-) -> Result<Option<Sizes>, AllocError>
+pub fn vector_sizes<M: Measure>(alloc: Global, payload: &[u8]) -> Result<Option<Sizes>, AllocError>
     ensures { IfOk result (λ sizes. MatchOption sizes (¬ (IsRead (vector u32 M.form) payload.now)) (AreSizesOf (vector u32 M.form) M.size (λ x. 0) payload.now)) }
 {
     match measure_vector::<M>(alloc, payload) {
