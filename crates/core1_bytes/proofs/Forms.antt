@@ -10,7 +10,7 @@ use Rattle.core1_bytes.specs.Types.{value_type, block_type, func_type, limits, t
 use Rattle.core1_bytes.specs.Instructions.{br_table, indirect, size, mem_arg, access, constant, control, instr_at}
 use Rattle.core1_bytes.specs.Tokens.{opened, control_at, token, has_arms, build}
 use Rattle.core1_bytes.specs.Bodies.{expr, local_group, body_with, body}
-use Rattle.core1_bytes.specs.Parts.{import_desc, import, global, export_desc, export, element, segment, type_section, import_section, func_section, table_section, memory_section, global_section, export_section, start_section, element_section, code_section, data_section}
+use Rattle.core1_bytes.specs.Parts.{import_desc, import, global, export_desc, export, element, segment, type_section, import_section, func_section, table_section, memory_section, global_section, export_section, start_section, element_section, data_section}
 
 pub exact_value_type : Exact value_type
 unfolding value_type
@@ -159,9 +159,6 @@ exact_start_section = search (exact_rules, exact_u32) depth 12
 
 pub exact_element_section : Exact element_section
 exact_element_section = exact_vector _ _ exact_u32 exact_element
-
-pub exact_code_section : Exact code_section
-exact_code_section = exact_vector _ _ exact_u32 exact_byte_vector
 
 pub exact_data_section : Exact data_section
 exact_data_section = exact_vector _ _ exact_u32 exact_segment

@@ -12,6 +12,4 @@ pub mod Typings
 pub mod Files
 pub mod Whole
 pub mod Measured
-pub mod Texts
 pub mod Payloads
-pub mod Complete

@@ -89,10 +89,6 @@ start_section = u32 >>= λ x. always (Some x)
 abbrev pub element_section : Form (List Element1)
 element_section = vector u32 element
 
--- "Code Section": the bytes of each body, whose count of bytes stands before it
-abbrev pub code_section : Form (List (List ℕ))
-code_section = vector u32 byte_vector
-
 -- "Data Section"
 abbrev pub data_section : Form (List Segment1)
 data_section = vector u32 segment

@@ -2,19 +2,17 @@
 
 mod bodies;
 mod code;
+mod format;
 mod instructions;
 mod measures;
-mod module;
 mod named;
-mod numbers;
 mod parts;
 mod sections;
 mod types;
-mod walks;
 
 pub use bodies::{BodyEntry, GroupEntry};
+pub use format::read1;
 pub use instructions::IndexEntry;
-pub use module::read1;
 pub use parts::{
     ElementEntry, ExportEntry, GlobalEntry, ImportEntry, MemoryEntry, SegmentEntry, TableEntry,
 };
