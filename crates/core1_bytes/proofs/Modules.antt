@@ -11,7 +11,7 @@ use Rattle.core1_ast.specs.declared.module.ty.Limits1.{Limits1}
 use Rattle.core1_ast.specs.declared.module.code.Body1.{Body1}
 use Rattle.wasm_frame.specs.Frame.{Part}
 use Rattle.wasm_frame.proofs.Contents.{one_content}
-use Rattle.core1_bytes.specs.declared.reading.format.Declared1.{Declared1}
+use Rattle.core1_bytes.specs.declared.reading.one.Declared1.{Declared1}
 use Rattle.core1_bytes.specs.Parts.{type_section, import_section, func_section, table_section, memory_section, global_section, export_section, start_section, element_section, data_section}
 use Rattle.core1_bytes.specs.Spells.{Contents1}
 use Rattle.core1_bytes.proofs.Forms.{exact_type_section, exact_import_section, exact_func_section, exact_table_section, exact_memory_section, exact_global_section, exact_export_section, exact_start_section, exact_element_section, exact_data_section}

@@ -12,20 +12,20 @@ use Rattle.wasm_frame.specs.Payloads.{payload_of, IsRead, IsSpelled, optional}
 use Rattle.wasm_frame.proofs.Contents.{value_content, read_of_spelled, spelled_of_read}
 use Rattle.module_reading.specs.declared.sizes.Sizes.{Sizes}
 use Rattle.module_reading.specs.Means.{Laws}
-use Rattle.module_reading.specs.Sizes.{IsNumber}
+use Rattle.module_reading.specs.Sizes.{AreSizesOf, IsNumber}
 use Rattle.core1_bytes.specs.Limits.{func_count}
 use Rattle.core1_bytes.specs.Parts.{type_section, import_section, func_section, table_section, memory_section, global_section, export_section, start_section, element_section, data_section}
-use Rattle.core1_bytes.specs.Spells.{format}
-use Rattle.core1_bytes.specs.Made.{AreOf, means}
+use Rattle.core1_bytes.specs.Spells.{one}
+use Rattle.core1_bytes.specs.Made.{means}
 use Rattle.core1_bytes.proofs.Forms.{exact_type_section, exact_import_section, exact_func_section, exact_table_section, exact_memory_section, exact_global_section, exact_export_section, exact_start_section, exact_element_section, exact_data_section, exact_body}
 use Rattle.core1_bytes.proofs.Modules.{one_contents}
 
 -- the sizes of a payload that is one vector of a form, or that none is spelled
 abbrev pub Sized : {X : Type 0} → Form (List X) → (X → ℕ) → List ℕ → Option Sizes → Type 0
-Sized f size p sizes = MatchOption sizes (¬ (IsRead f p)) (AreOf f size p)
+Sized f size p sizes = MatchOption sizes (¬ (IsRead f p)) (AreSizesOf f size p)
 
 abbrev pub Checked : {X : Type 0} → Form (List X) → (X → ℕ) → List ℕ → Option Sizes → Type 0
-Checked f size p sizes = MatchOption sizes (¬ (IsSpelled f p)) (λ s. IsSpelled f p × AreOf f size p s)
+Checked f size p sizes = MatchOption sizes (¬ (IsSpelled f p)) (λ s. IsSpelled f p × AreSizesOf f size p s)
 
 sized_checked : {X : Type 0} (f : Form (List X)) (exact : Exact f) (size : X → ℕ) (p : List ℕ) (sizes : Option Sizes) → Sized f size p sizes → Checked f size p sizes
 sized_checked f exact size p None h = λ s. h (read_of_spelled f exact p s)
@@ -39,7 +39,7 @@ pub number_checked : (p : List ℕ) (sizes : Option Sizes) → MatchOption sizes
 number_checked p None h = λ s. h (read_of_spelled start_section exact_start_section p s)
 number_checked p (Some s) h = (spelled_of_read start_section exact_start_section p (Some s.count, h), h)
 
-pub laws : Laws format means
+pub laws : Laws one means
 laws = record {
   exact_body = exact_body;
   contents = λ parts part. record {

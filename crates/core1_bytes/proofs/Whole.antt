@@ -12,7 +12,7 @@ use Rattle.wasm_frame.proofs.SizedItems.{vector_cut}
 use Rattle.core1_bytes.specs.Parts.{type_section, import_section, func_section, table_section, memory_section, global_section, export_section, start_section, element_section, data_section}
 use Rattle.core1_bytes.specs.Bodies.{body}
 use Rattle.module_reading.specs.Spells.{code_section, IsPart}
-use Rattle.core1_bytes.specs.Spells.{format, Spells1}
+use Rattle.core1_bytes.specs.Spells.{one, Spells1}
 use Rattle.core1_bytes.specs.Made.{body_section}
 use Rattle.core1_bytes.specs.Appends.{AppendsSection}
 use Rattle.core1_bytes.proofs.Files.{Piece, present, Ascends, Cut, find, sections_of, payload_found, each_present}
@@ -86,7 +86,7 @@ module_spelled a b1 b2 b3 b4 b5 b6 b7 b8 b9 b10 out m start s1 s2 s3 s4 s5 s6 s7
       grammar = record {
         parts = present plan;
         frame = (t1.rest, t1.whole ∙ ap (λ (u : List ℕ). u ++ t1.rest) start, sections_of 0 plan t1.rest asc t1.cut);
-        within = each_present (IsPart format) plan (spelled_if s1.payload _ _ _ (λ p h. (m.types, h)) s1.content, (spelled_if s2.payload _ _ _ (λ p h. (m.imports, h)) s2.content, (spelled_if s3.payload _ _ _ (λ p h. (m.funcs, h)) s3.content, (spelled_if s4.payload _ _ _ (λ p h. (m.tables, h)) s4.content, (spelled_if s5.payload _ _ _ (λ p h. (m.memories, h)) s5.content, (spelled_if s6.payload _ _ _ (λ p h. (m.globals, h)) s6.content, (spelled_if s7.payload _ _ _ (λ p h. (m.exports, h)) s7.content, (spelled_if s8.payload _ _ _ (λ p h. (m.start, h)) s8.content, (spelled_if s9.payload _ _ _ (λ p h. (m.elems, h)) s9.content, (spelled_if s10.payload _ _ _ (λ p h. (bodies.texts, h)) bodies.cut, (spelled_if s11.payload _ _ _ (λ p h. (m.datas, h)) s11.content, tt)))))))))));
+        within = each_present (IsPart one) plan (spelled_if s1.payload _ _ _ (λ p h. (m.types, h)) s1.content, (spelled_if s2.payload _ _ _ (λ p h. (m.imports, h)) s2.content, (spelled_if s3.payload _ _ _ (λ p h. (m.funcs, h)) s3.content, (spelled_if s4.payload _ _ _ (λ p h. (m.tables, h)) s4.content, (spelled_if s5.payload _ _ _ (λ p h. (m.memories, h)) s5.content, (spelled_if s6.payload _ _ _ (λ p h. (m.globals, h)) s6.content, (spelled_if s7.payload _ _ _ (λ p h. (m.exports, h)) s7.content, (spelled_if s8.payload _ _ _ (λ p h. (m.start, h)) s8.content, (spelled_if s9.payload _ _ _ (λ p h. (m.elems, h)) s9.content, (spelled_if s10.payload _ _ _ (λ p h. (bodies.texts, h)) bodies.cut, (spelled_if s11.payload _ _ _ (λ p h. (m.datas, h)) s11.content, tt)))))))))));
         contents = record {
           types = content 1 type_section [] m.types plan s1.payload asc refl s1.content;
           imports = content 2 import_section [] m.imports plan s2.payload asc refl s2.content;

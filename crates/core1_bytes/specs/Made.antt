@@ -10,12 +10,12 @@ use Rattle.wasm_frame.specs.Payloads.{value}
 use Rattle.module_reading.specs.declared.sizes.Sizes.{Sizes}
 use Rattle.module_reading.specs.Means.{Means}
 use Rattle.module_reading.specs.Sizes.{AreSizesOf, IsNumber}
-use Rattle.core1_bytes.specs.declared.reading.format.Declared1.{Declared1}
+use Rattle.core1_bytes.specs.declared.reading.one.Declared1.{Declared1}
 use Rattle.core1_bytes.specs.Bodies.{body, sizes_of}
 use Rattle.core1_bytes.specs.Limits.{func_count}
 use Rattle.core1_bytes.specs.Nesting.{depth}
 use Rattle.core1_bytes.specs.Parts.{type_section, import_section, func_section, table_section, memory_section, global_section, export_section, start_section, element_section, data_section}
-use Rattle.core1_bytes.specs.Spells.{InGrammar1, format}
+use Rattle.core1_bytes.specs.Spells.{InGrammar1, one}
 
 -- the bodies, each behind its size
 abbrev pub body_section : Form (List Body1)
@@ -37,25 +37,21 @@ made at = record {
   datas = value data_section [] (at 11);
 }
 
--- a vector whose entries have one size
-abbrev pub AreOf : {X : Type 0} → Form (List X) → (X → ℕ) → List ℕ → Sizes → Type 0
-AreOf f size = AreSizesOf f size (λ x. 0)
-
 -- how large the payload of a section of this id is
 abbrev pub HasSizes1 : ℕ → List ℕ → Sizes → Type 0
 HasSizes1 id payload s =
-    Chosen (id == 1) (AreOf type_section (λ t. length t.params) payload s)
-    (Chosen (id == 2) (AreOf import_section (λ i. func_count i.desc) payload s)
-    (Chosen (id == 3) (AreOf func_section (λ x. 0) payload s)
-    (Chosen (id == 4) (AreOf table_section (λ l. 0) payload s)
-    (Chosen (id == 5) (AreOf memory_section (λ l. 0) payload s)
-    (Chosen (id == 6) (AreOf global_section (λ g. greatest depth g.init) payload s)
-    (Chosen (id == 7) (AreOf export_section (λ x. 0) payload s)
+    Chosen (id == 1) (AreSizesOf type_section (λ t. length t.params) payload s)
+    (Chosen (id == 2) (AreSizesOf import_section (λ i. func_count i.desc) payload s)
+    (Chosen (id == 3) (AreSizesOf func_section (λ x. 0) payload s)
+    (Chosen (id == 4) (AreSizesOf table_section (λ l. 0) payload s)
+    (Chosen (id == 5) (AreSizesOf memory_section (λ l. 0) payload s)
+    (Chosen (id == 6) (AreSizesOf global_section (λ g. greatest depth g.init) payload s)
+    (Chosen (id == 7) (AreSizesOf export_section (λ x. 0) payload s)
     (Chosen (id == 8) (IsNumber payload s)
-    (Chosen (id == 9) (AreOf element_section (λ e. greatest depth e.offset) payload s)
-    (Chosen (id == 11) (AreOf data_section (λ d. greatest depth d.offset) payload s) ⊥)))))))))
+    (Chosen (id == 9) (AreSizesOf element_section (λ e. greatest depth e.offset) payload s)
+    (Chosen (id == 11) (AreSizesOf data_section (λ d. greatest depth d.offset) payload s) ⊥)))))))))
 
-abbrev pub means : Means format
+abbrev pub means : Means one
 means = record { made = made; body_sizes = sizes_of; HasSizes = HasSizes1 }
 
 -- what the check of a payload of this id tells

@@ -41,8 +41,8 @@ pub record Contents1 (parts : List Part) (m : Module1) : Type 0 where
   pub datas : Content 11 data_section [] parts m.datas
 
 -- the binary format of 1.0; there are as many functions as bodies
-abbrev pub format : Format Module1
-format = record {
+abbrev pub one : Format Module1
+one = record {
   version = One;
   InGrammar = InGrammar1;
   Contents = Contents1;
@@ -56,4 +56,4 @@ format = record {
 
 -- the bytes spell the module
 abbrev pub Spells1 : List ℕ → Module1 → Type 0
-Spells1 = Spells format
+Spells1 = Spells one

@@ -2,17 +2,17 @@
 
 mod bodies;
 mod code;
-mod format;
 mod instructions;
 mod measures;
 mod named;
+mod one;
 mod parts;
 mod sections;
 mod types;
 
 pub use bodies::{BodyEntry, GroupEntry};
-pub use format::read1;
 pub use instructions::IndexEntry;
+pub use one::read1;
 pub use parts::{
     ElementEntry, ExportEntry, GlobalEntry, ImportEntry, MemoryEntry, SegmentEntry, TableEntry,
 };

@@ -1,5 +1,5 @@
 pub mod Adding
-mod Lists
+pub mod Lists
 pub mod Modules
 pub mod OneAnswer
 pub mod Passed

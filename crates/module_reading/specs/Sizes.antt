@@ -16,13 +16,12 @@ use Rattle.module_reading.specs.Means.{Means}
 use Rattle.module_reading.specs.Spells.{code_section, IsPart}
 
 -- a payload is a vector of entries with these sizes
-pub record AreSizesOf {X : Type 0} (f : Form (List X)) (size other : X → ℕ) (payload : List ℕ) (s : Sizes) : Type 0 where
+pub record AreSizesOf {X : Type 0} (f : Form (List X)) (size : X → ℕ) (payload : List ℕ) (s : Sizes) : Type 0 where
   pub entries : List X
   pub read : whole (f.read payload) ≡ Some entries
   pub count_is : s.count ≡ length entries
   pub greatest_is : s.greatest ≡ greatest size entries
   pub total_is : s.total ≡ sum_by size entries
-  pub second_is : s.second ≡ greatest other entries
 
 -- a payload is one number
 abbrev pub IsNumber : List ℕ → Sizes → Type 0

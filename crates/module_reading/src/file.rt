@@ -1,7 +1,9 @@
 use crate::fault::ReadFault;
+use grammar_kit::Entry;
+use sqlite_items::Items;
 use std::alloc::{AllocError, Global};
 use std::marker::Model;
-use wasm_frame::payloads::payload_of;
+use wasm_frame::payloads::{number_of, payload_of, vector_of};
 use wasm_frame::sections::{FrameFault, Section, Sections, Version, sections};
 
 /// The bytes of a file with its sections in place ("Modules" of the standard).
@@ -25,7 +27,10 @@ impl<'a> Model for File<'a> {
 }
 
 impl<'a> File<'a> {
-    ghost use Rattle.std.specs.Prelude.{◌≡◌, ◌<◌, ◌^◌, length, All, IfOk, option_map};
+    ghost use Rattle.std.specs.Prelude.{◌≡◌, ◌<◌, ◌^◌, [], None, length, All, IfOk, option_map};
+    ghost use Rattle.grammar_kit.specs.Form.{vector};
+    ghost use Rattle.wasm_frame.specs.Leb128.{u32};
+    ghost use Rattle.wasm_frame.specs.Payloads.{value, optional};
     ghost use Rattle.wasm_frame.specs.Frame.{Frame, Whole, IsWithin, parts_of};
     ghost use Rattle.module_reading.specs.Files.{payloads};
     ghost use Rattle.module_reading.specs.Steps.{Opens};
@@ -55,6 +60,21 @@ impl<'a> File<'a> {
         ensures { option_map (λ p. p.now) result ≡ payloads self.now id }
     {
         payload_of(self.bytes, self.sections.as_slice(), id)
+    }
+
+    /// The entries of the section of an id, whose payload is a vector. Where there is no such section, or its payload is no
+    /// vector, there are none.
+    pub fn entries<E: Entry>(&self, alloc: Global, id: u8) -> Result<Items<E::Value>, AllocError>
+        ensures { IfOk result (λ entries. entries ≡ value (vector u32 E.form) [] (payloads self.now id)) }
+    {
+        vector_of::<E>(alloc, self.payload(id))
+    }
+
+    /// The number that the section of an id is, if it is one.
+    pub fn number(&self, id: u8) -> Option<u32>
+        ensures { result ≡ value optional None (payloads self.now id) }
+    {
+        number_of(self.payload(id))
     }
 
     /// The sections in order, as places of the file's bytes.

@@ -79,6 +79,7 @@ pub trait ModuleFormat {
         requires { declared ≡ front (means.made (payloads file.now)) }
         ensures { IfOk result (λ m. m ≡ means.made (payloads file.now)) };
 
-    /// What a version owes of its grammar and of what it is read by.
-    ghost laws: { Laws format means };
+    /// What a version owes of its grammar and of what it is read by. Nothing is computed.
+    fn laws()
+        ensures { Laws format means };
 }

@@ -2,6 +2,7 @@
 
 ghost use Rattle.std.specs.Prelude.{◌≡◌, Result};
 ghost use Rattle.module_reading.specs.declared.fault.ReadFault.{ReadFault};
+ghost use Rattle.module_reading.specs.Means.{Laws};
 ghost use Rattle.module_reading.specs.Reads.{Reads, Tells, UnlessMemory};
 ghost use Rattle.module_reading.specs.Sizes.{IsMeasured};
 ghost use Rattle.module_reading.specs.Steps.{Step};
@@ -23,6 +24,7 @@ pub fn read<F: ModuleFormat>(alloc: Global, b: &[u8]) -> Result<F::Module, ReadF
     ensures tells { Tells F.format b.now result }
     ensures only { UnlessMemory result ((other : Result F.Module ReadFault) → Reads F.format b.now other → other ≡ result) }
 {
+    F::laws();
     read_bytes::<F>(alloc, b)
 }
 
@@ -32,10 +34,12 @@ pub fn read_file<F: ModuleFormat>(alloc: Global, file: &File<'_>) -> Result<F::M
     ensures tells { Tells F.format file.now.bytes result }
     ensures only { UnlessMemory result ((other : Result F.Module ReadFault) → Reads F.format file.now.bytes other → other ≡ result) }
 {
+    F::laws();
     read_steps::<F>(alloc, file)
 }
 
 fn read_bytes<F: ModuleFormat>(alloc: Global, b: &[u8]) -> Result<F::Module, ReadFault>
+    requires { Laws F.format F.means }
     ensures { Tells F.format b.now result }
 {
     let file = File::open(alloc, b, F::version())?;
@@ -43,7 +47,8 @@ fn read_bytes<F: ModuleFormat>(alloc: Global, b: &[u8]) -> Result<F::Module, Rea
 }
 
 fn read_steps<F: ModuleFormat>(alloc: Global, file: &File<'_>) -> Result<F::Module, ReadFault>
-    requires { file.now.version ≡ F.format.version }
+    requires version { file.now.version ≡ F.format.version }
+    requires laws { Laws F.format F.means }
     ensures { Tells F.format file.now.bytes result }
 {
     let sizes = measure::<F>(alloc, file)?;
@@ -53,7 +58,8 @@ fn read_steps<F: ModuleFormat>(alloc: Global, file: &File<'_>) -> Result<F::Modu
 
 /// The numbers of a file, if its counts agree and none of those that are known passes its limit.
 fn check_front<F: ModuleFormat>(file: &File<'_>, sizes: &FileSizes) -> Result<Numbers, ReadFault>
-    requires { IsMeasured F.format F.means file.now sizes.now }
+    requires measured { IsMeasured F.format F.means file.now sizes.now }
+    requires laws { Laws F.format F.means }
     ensures { Step F.format file.now.bytes result (λ n. IsFront F.format F.means file.now n) }
 {
     if !F::agree(sizes) {

@@ -3,6 +3,7 @@
 ghost use Rattle.std.specs.Prelude.{◌≡◌, ◌≢◌, List, [], ◌∷◌, ◌++◌, IfOk};
 ghost use Rattle.grammar_kit.specs.Form.{Chosen};
 ghost use Rattle.wasm_frame.specs.Frame.{Part};
+ghost use Rattle.module_reading.specs.Means.{Laws};
 ghost use Rattle.module_reading.specs.Sizes.{IsMeasured};
 ghost use Rattle.module_reading.specs.Spells.{IsPart};
 ghost use Rattle.module_reading.specs.Steps.{Step};
@@ -103,7 +104,8 @@ fn walk_sections<F: ModuleFormat>(alloc: Global, file: &File<'_>) -> Result<Walk
 
 /// How large the sections and the bodies of a file are, if all are in their grammar.
 pub fn measure<F: ModuleFormat>(alloc: Global, file: &File<'_>) -> Result<FileSizes, ReadFault>
-    requires { file.now.version ≡ F.format.version }
+    requires version { file.now.version ≡ F.format.version }
+    requires laws { Laws F.format F.means }
     ensures { Step F.format file.now.bytes result (IsMeasured F.format F.means file.now) }
 {
     let walked = walk_sections::<F>(alloc, file)?;

@@ -1,6 +1,6 @@
 // How large the sections of a file are, as the walk that checks them finds it.
 
-ghost use Rattle.std.specs.Prelude.{◌≡◌, IfOk, MatchOption, unwrap_or};
+ghost use Rattle.std.specs.Prelude.{◌≡◌, IfOk, MatchOption, option_map, unwrap_or};
 ghost use Rattle.grammar_kit.specs.Form.{vector};
 ghost use Rattle.wasm_frame.specs.Leb128.{u32};
 ghost use Rattle.wasm_frame.specs.Payloads.{IsRead, optional};
@@ -21,7 +21,7 @@ pub struct Sizes {
     pub greatest: u32,
     /// The sum of the sizes.
     pub total: u64,
-    /// The greatest second size of an entry, as the results of a function type.
+    /// The greatest of another size of an entry, as the results of a function type.
     pub second: u32,
 }
 
@@ -66,6 +66,16 @@ impl FileSizes {
         None
     }
 
+    /// The number that the section of an id is, if there is one.
+    pub fn number(&self, id: u8) -> Option<u32>
+        ensures { result ≡ option_map (λ s. s.count) (sizes_at id self.now.sections) }
+    {
+        match self.find(id) {
+            Some(sizes) => Some(sizes.count),
+            None => None,
+        }
+    }
+
     /// How large the section of an id is. Where there is none, nothing is there.
     pub fn of(&self, id: u8) -> Sizes
         ensures { result ≡ unwrap_or (sizes_at id self.now.sections) no_sizes }
@@ -79,7 +89,7 @@ impl FileSizes {
 
 /// How large a payload is that is one vector. `None` where it is none.
 pub fn vector_sizes<M: Measure>(alloc: Global, payload: &[u8]) -> Result<Option<Sizes>, AllocError>
-    ensures { IfOk result (λ sizes. MatchOption sizes (¬ (IsRead (vector u32 M.form) payload.now)) (AreSizesOf (vector u32 M.form) M.size (λ x. 0) payload.now)) }
+    ensures { IfOk result (λ sizes. MatchOption sizes (¬ (IsRead (vector u32 M.form) payload.now)) (AreSizesOf (vector u32 M.form) M.size payload.now)) }
 {
     match measure_vector::<M>(alloc, payload) {
         Ok((count, extent)) => Ok(Some(Sizes {

@@ -9,7 +9,7 @@ use Rattle.code_new.proofs.TypeForms.{exact_ref_type_at, exact_ref_type, exact_v
 use Rattle.code_new.proofs.CodeForms.{exact_expr}
 use Rattle.read_new.specs.Types.{func_type, from_min, from_min_to_max, limits, mutability, tag}
 use Rattle.read_new.specs.Segments.{mode, index, items_type, entries, element, segment}
-use Rattle.read_new.specs.Parts.{imported_table, imported_global, import_desc, import, table, global, export_desc, export, type_section, import_section, func_section, table_section, memory_section, tag_section, global_section, export_section, start_section, element_section, data_count_section, code_section, data_section}
+use Rattle.read_new.specs.Parts.{imported_table, imported_global, import_desc, import, table, global, export_desc, export, type_section, import_section, func_section, table_section, memory_section, tag_section, global_section, export_section, start_section, element_section, data_count_section, data_section}
 use Rattle.read_new.specs.Bodies.{local_group, body_with, body}
 use Rattle.read_new.specs.Made.{body_section}
 
@@ -137,9 +137,6 @@ exact_element_section = exact_vector _ _ exact_u32 exact_element
 
 pub exact_data_count_section : Exact data_count_section
 exact_data_count_section = search (exact_rules, exact_u32) depth 12
-
-pub exact_code_section : Exact code_section
-exact_code_section = exact_vector _ _ exact_u32 exact_byte_vector
 
 pub exact_data_section : Exact data_section
 exact_data_section = exact_vector _ _ exact_u32 exact_segment

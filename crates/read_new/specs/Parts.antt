@@ -14,7 +14,7 @@ use Rattle.wasm_ast.specs.declared.module.parts.Element.{Element}
 use Rattle.wasm_ast.specs.declared.module.parts.Segment.{Segment}
 use Rattle.grammar_kit.specs.Form.{Form, never, always, byte, when, ◌>>=◌, vector}
 use Rattle.wasm_frame.specs.Leb128.{u32}
-use Rattle.wasm_frame.specs.Name.{name, byte_vector}
+use Rattle.wasm_frame.specs.Name.{name}
 use Rattle.wasm_frame.specs.Payloads.{optional}
 use Rattle.code_new.specs.Types.{value_type, ref_type, ref_type_at}
 use Rattle.code_new.specs.Code.{expr}
@@ -107,10 +107,6 @@ element_section = vector u32 element
 -- "Data Count Section": how many data segments there are
 abbrev pub data_count_section : Form (Option ℕ)
 data_count_section = optional
-
--- "Code Section": the bytes of each body, whose count of bytes stands before it
-abbrev pub code_section : Form (List (List ℕ))
-code_section = vector u32 byte_vector
 
 -- "Data Section"
 abbrev pub data_section : Form (List Segment)

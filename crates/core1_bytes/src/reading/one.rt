@@ -5,9 +5,8 @@ ghost use Rattle.core1_ast.specs.declared.module.parts.Module1.{Module1};
 ghost use Rattle.module_reading.specs.declared.fault.ReadFault.{ReadFault};
 ghost use Rattle.module_reading.specs.Files.{payloads};
 ghost use Rattle.module_reading.specs.Reads.{Reads, Tells, UnlessMemory};
-ghost use Rattle.core1_bytes.specs.Spells.{format};
+ghost use Rattle.core1_bytes.specs.Spells.{one};
 ghost use Rattle.core1_bytes.specs.Made.{made, means, declared_of};
-ghost use Rattle.core1_bytes.proofs.Payloads.{laws};
 
 use super::bodies::{BodyEntry, measure_body};
 use super::instructions::IndexEntry;
@@ -23,7 +22,6 @@ use grammar_kit::FormError;
 use module_reading::{BodySizes, File, FileSizes, Kind, ModuleFormat, Numbers, ReadFault, Sizes};
 use sqlite_items::Items;
 use std::alloc::{AllocError, Global};
-use wasm_frame::payloads::{number_of, vector_of};
 use wasm_frame::sections::Version;
 
 /// The module that the bytes of a file of 1.0 spell, where it passes no limit. The answer names the first step that
@@ -31,11 +29,11 @@ use wasm_frame::sections::Version;
 /// functions and bodies, and the first limit that is passed. Custom sections add nothing.
 pub fn read1(alloc: Global, b: &[u8]) -> Result<Module1, ReadFault>
     // What the answer says of the file.
-    ensures tells { Tells format b.now result }
+    ensures tells { Tells one b.now result }
     // No other answer is told of it.
-    ensures only { UnlessMemory result ((other : Result Module1 ReadFault) → Reads format b.now other → other ≡ result) }
+    ensures only { UnlessMemory result ((other : Result Module1 ReadFault) → Reads one b.now other → other ≡ result) }
 {
-    module_reading::read::<Wasm1Format>(alloc, b)
+    module_reading::read::<One>(alloc, b)
 }
 
 /// What a module declares, its values and its code left out.
@@ -49,14 +47,14 @@ pub struct Declared1 {
 }
 
 /// The binary format of WebAssembly 1.0.
-struct Wasm1Format;
+struct One;
 
-impl ModuleFormat for Wasm1Format {
+impl ModuleFormat for One {
     type Module = Module1;
 
     type Declared = Declared1;
 
-    ghost format = { format };
+    ghost format = { one };
 
     ghost means = { means };
 
@@ -122,11 +120,11 @@ impl ModuleFormat for Wasm1Format {
     }
 
     fn declare(alloc: Global, file: &File<'_>) -> Result<Declared1, AllocError> {
-        let types = vector_of::<TypeEntry>(alloc, file.payload(1))?;
-        let imports = vector_of::<ImportEntry>(alloc, file.payload(2))?;
-        let funcs = vector_of::<IndexEntry>(alloc, file.payload(3))?;
-        let tables = vector_of::<TableEntry>(alloc, file.payload(4))?;
-        let memories = vector_of::<MemoryEntry>(alloc, file.payload(5))?;
+        let types = file.entries::<TypeEntry>(alloc, 1)?;
+        let imports = file.entries::<ImportEntry>(alloc, 2)?;
+        let funcs = file.entries::<IndexEntry>(alloc, 3)?;
+        let tables = file.entries::<TableEntry>(alloc, 4)?;
+        let memories = file.entries::<MemoryEntry>(alloc, 5)?;
         Ok(Declared1 {
             types,
             imports,
@@ -150,14 +148,14 @@ impl ModuleFormat for Wasm1Format {
             memories: declared.memories,
             globals: defined.globals,
             exports: defined.exports,
-            start: number_of(file.payload(8)),
+            start: file.number(8),
             elems: defined.elems,
             codes: defined.codes,
             datas: defined.datas,
         })
     }
 
-    ghost laws = { laws };
+    fn laws() {}
 }
 
 /// The values and the code of a module, and what it exports.
@@ -178,11 +176,11 @@ fn define(alloc: Global, file: &File<'_>) -> Result<Defined1, AllocError>
     ensures codes { IfOk result (λ d. d.codes ≡ (made (payloads file.now)).codes) }
     ensures datas { IfOk result (λ d. d.datas ≡ (made (payloads file.now)).datas) }
 {
-    let globals = vector_of::<GlobalEntry>(alloc, file.payload(6))?;
-    let exports = vector_of::<ExportEntry>(alloc, file.payload(7))?;
-    let elems = vector_of::<ElementEntry>(alloc, file.payload(9))?;
-    let codes = vector_of::<BodyEntry>(alloc, file.payload(10))?;
-    let datas = vector_of::<SegmentEntry>(alloc, file.payload(11))?;
+    let globals = file.entries::<GlobalEntry>(alloc, 6)?;
+    let exports = file.entries::<ExportEntry>(alloc, 7)?;
+    let elems = file.entries::<ElementEntry>(alloc, 9)?;
+    let codes = file.entries::<BodyEntry>(alloc, 10)?;
+    let datas = file.entries::<SegmentEntry>(alloc, 11)?;
     Ok(Defined1 {
         globals,
         exports,
