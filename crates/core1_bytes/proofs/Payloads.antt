@@ -1,5 +1,5 @@
 -- What 1.0 owes to the steps of reading that all versions share.
-use Rattle.std.proofs.Common.{◌≡◌, ℕ, ◌≤◌, length, List, [], ◌∷◌, Option, Some, None, Result, Ok, Err, arith, refl}
+use Rattle.std.proofs.Common.{ℕ, ◌≤◌, length, List, [], ◌∷◌, Option, Some, None, Result, Ok, Err, arith, refl}
 use Rattle.std.specs.Prelude.{sum_by, IfOk, MatchOption}
 use Rattle.std.proofs.lemmas.List.Sums.{sum_by-cons}
 use Rattle.core1_ast.specs.declared.module.parts.Import1.{Import1}
@@ -7,8 +7,7 @@ use Rattle.core1_ast.specs.declared.module.parts.ImportDesc1.{ImportDesc1}
 use Rattle.core1_ast.specs.declared.module.parts.ImportDesc1.TheVariants as imports
 use Rattle.grammar_kit.specs.Form.{Form}
 use Rattle.grammar_kit.specs.Exact.{Exact}
-use Rattle.wasm_frame.specs.Frame.{Part}
-use Rattle.wasm_frame.specs.Payloads.{payload_of, IsRead, IsSpelled, optional}
+use Rattle.wasm_frame.specs.Payloads.{IsRead, IsSpelled, optional}
 use Rattle.wasm_frame.proofs.Contents.{value_content, read_of_spelled, spelled_of_read}
 use Rattle.module_reading.specs.declared.sizes.Sizes.{Sizes}
 use Rattle.module_reading.specs.Means.{Laws}

@@ -1,5 +1,5 @@
 -- By what a file of 1.0 is read: the module of the payloads of sections, and how large payloads and bodies are.
-use Rattle.std.specs.Prelude.{ℕ, List, [], length, Bool, false, Option, None, MatchOption, ◌==◌}
+use Rattle.std.specs.Prelude.{ℕ, List, [], length, Option, None, MatchOption, ◌==◌}
 use Rattle.core1_ast.specs.declared.module.code.Body1.{Body1}
 use Rattle.core1_ast.specs.declared.module.parts.Module1.{Module1}
 use Rattle.grammar_kit.specs.Form.{Form, Chosen, vector}
