@@ -20,9 +20,9 @@ use Rattle.core1_bytes.specs.declared.body.LocalGroup1.{LocalGroup1}
 use Rattle.wasm_frame.specs.Leb128.{u32}
 use Rattle.core1_bytes.specs.Types.{value_type, func_type, limits, table_type, mutability, global_type}
 use Rattle.core1_bytes.specs.Bodies.{expr, local_group, body}
-use Rattle.core1_bytes.specs.Parts.{import_desc, import, global, export_desc, export, element, segment}
+use Rattle.core1_bytes.specs.Parts.{import_desc, import, global, export_of, export_desc, export, element, segment}
 use Rattle.core1_bytes.specs.Appends.{Appends, export_index, Exports}
-use Rattle.core1_bytes.proofs.Appending.{appends_to, appends_bind, appends_map, mapped}
+use Rattle.core1_bytes.proofs.Appending.{appends_to, appends_bind, appends_map, mapped, found}
 use Rattle.core1_bytes.proofs.Nested.{coded, coded_alone}
 
 true_text : mutability.text (0x01 ∷ []) true
@@ -149,20 +149,20 @@ global_appends a b c g p q =
     (appends_map {Y = Global1} expr (λ code. record { ty = g.ty; mutable = g.mutable; init = code }) b c g.init q)
 
 pub exports_func : (x : ℕ) → Exports (exports.Func x) 0x00
-unfolding export_desc
-exports_func x = record { spells = λ b h. (0x00, 0x00 ∷ [], b, refl, refl, mapped u32 (λ x. exports.Func x) b x h) }
+unfolding export_desc export_of
+exports_func x = record { spells = λ b h. (0x00, 0x00 ∷ [], b, refl, refl, found u32 (export_of 0x00) b x _ refl h) }
 
 pub exports_table : (x : ℕ) → Exports (exports.Table x) 0x01
-unfolding export_desc
-exports_table x = record { spells = λ b h. (0x01, 0x01 ∷ [], b, refl, refl, mapped u32 (λ x. exports.Table x) b x h) }
+unfolding export_desc export_of
+exports_table x = record { spells = λ b h. (0x01, 0x01 ∷ [], b, refl, refl, found u32 (export_of 0x01) b x _ refl h) }
 
 pub exports_memory : (x : ℕ) → Exports (exports.Memory x) 0x02
-unfolding export_desc
-exports_memory x = record { spells = λ b h. (0x02, 0x02 ∷ [], b, refl, refl, mapped u32 (λ x. exports.Memory x) b x h) }
+unfolding export_desc export_of
+exports_memory x = record { spells = λ b h. (0x02, 0x02 ∷ [], b, refl, refl, found u32 (export_of 0x02) b x _ refl h) }
 
 pub exports_global : (x : ℕ) → Exports (exports.Global x) 0x03
-unfolding export_desc
-exports_global x = record { spells = λ b h. (0x03, 0x03 ∷ [], b, refl, refl, mapped u32 (λ x. exports.Global x) b x h) }
+unfolding export_desc export_of
+exports_global x = record { spells = λ b h. (0x03, 0x03 ∷ [], b, refl, refl, found u32 (export_of 0x03) b x _ refl h) }
 
 pub ruleset export_rules = (exports_func, exports_table, exports_memory, exports_global)
 

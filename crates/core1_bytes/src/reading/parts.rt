@@ -3,7 +3,7 @@
 ghost use Rattle.std.specs.Prelude.{◌≡◌};
 ghost use Rattle.grammar_kit.specs.Gives.{Gives, GivesOption};
 ghost use Rattle.core1_bytes.specs.Types.{limits, table_type};
-ghost use Rattle.core1_bytes.specs.Parts.{import_desc, import, global, export_desc, export, element, segment};
+ghost use Rattle.core1_bytes.specs.Parts.{import_desc, import, global, export_of, export_desc, export, element, segment};
 
 use super::code::read_expr;
 use super::instructions::IndexEntry;
@@ -105,31 +105,29 @@ impl Entry for GlobalEntry {
     }
 }
 
+/// What an export of this kind names, by its index.
+#[tactic(auto, unfolding(crate::specs::Parts::export_of))]
+fn export_of(kind: u8, index: u32) -> Option<ExportDesc1>
+    ensures { result ≡ export_of kind index }
+{
+    match kind {
+        0x00 => Some(ExportDesc1::Func(index)),
+        0x01 => Some(ExportDesc1::Table(index)),
+        0x02 => Some(ExportDesc1::Memory(index)),
+        0x03 => Some(ExportDesc1::Global(index)),
+        _ => None,
+    }
+}
+
 /// What an export names, at the front, and the bytes after it.
 #[tactic(auto, unfolding(crate::specs::Parts::export_desc))]
 fn split_export_desc(bytes: &[u8]) -> Option<(ExportDesc1, &[u8])>
     ensures { GivesOption (λ p. (p.0, p.1.now)) result (export_desc.read bytes.now) }
 {
     let (kind, rest) = read_byte(bytes)?;
-    match kind {
-        0x00 => {
-            let (index, rest) = split_u32(rest)?;
-            Some((ExportDesc1::Func(index), rest))
-        }
-        0x01 => {
-            let (index, rest) = split_u32(rest)?;
-            Some((ExportDesc1::Table(index), rest))
-        }
-        0x02 => {
-            let (index, rest) = split_u32(rest)?;
-            Some((ExportDesc1::Memory(index), rest))
-        }
-        0x03 => {
-            let (index, rest) = split_u32(rest)?;
-            Some((ExportDesc1::Global(index), rest))
-        }
-        _ => None,
-    }
+    let (index, rest) = split_u32(rest)?;
+    let desc = export_of(kind, index)?;
+    Some((desc, rest))
 }
 
 /// An entry of the export section.
