@@ -13,7 +13,7 @@ mod typing;
 use module::is_core;
 use std::alloc::{AllocError, Global};
 use wasm_ast::module::Module;
-use wasm_frame::numbers::split_u32;
+use wasm_frame::leb128::split_u32;
 use wasm_frame::payloads::payload_of;
 use wasm_frame::sections::{FrameFault, Section, Version, sections};
 

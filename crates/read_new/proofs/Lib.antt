@@ -3,7 +3,5 @@ pub mod Depths
 pub mod Forms
 pub mod Imports
 pub mod Measured
-pub mod Modules
-pub mod OneAnswer
-pub mod Passed
-pub mod Texts
+pub mod Owed
+pub mod Told

@@ -1,12 +1,9 @@
+pub mod Types
+pub mod Parts
+pub mod Segments
 pub mod Bodies
-pub mod Faults
 pub mod Limits
 pub mod Made
-pub mod Numbers
-pub mod Parts
-pub mod Reads
-pub mod Segments
 pub mod Spells
-pub mod Texts
-pub mod Types
-pub mod Walks
+pub mod Sizes
+pub mod Reads

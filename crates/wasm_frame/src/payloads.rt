@@ -10,7 +10,7 @@ ghost use Rattle.wasm_frame.specs.Frame.{IsWithin, parts_of};
 ghost use Rattle.wasm_frame.specs.Leb128.{u32};
 ghost use Rattle.wasm_frame.specs.Payloads.{payload_of, IsRead, value, optional, FirstWithout, counted};
 
-use crate::numbers::split_u32;
+use crate::leb128::split_u32;
 use crate::sections::Section;
 use grammar_kit::{Entry, Extent, FormError, Measure, measure_many, read_many};
 use sqlite_items::Items;

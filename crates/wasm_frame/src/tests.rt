@@ -1,4 +1,4 @@
-use crate::numbers::*;
+use crate::leb128::*;
 use crate::sections::{Version, sections};
 use num_core::lists::Bytes;
 use std::alloc::{AllocError, Global};

@@ -4,7 +4,7 @@ ghost use Rattle.grammar_kit.specs.Gives.{GivesOption};
 ghost use Rattle.wasm_frame.specs.Frame.{IsWithin, Tells, head, section, order, left_after};
 
 use super::{FrameFault, Section, Sections, Version};
-use crate::numbers::split_u32;
+use crate::leb128::split_u32;
 use grammar_kit::{read_byte, read_raw};
 use sqlite_items::Items;
 use std::alloc::Global;
