@@ -11,6 +11,17 @@ use Rattle.typing_kit.specs.Stack.{meets, fit, fit_whole}
 use Rattle.typing_kit.specs.Steps.{topmost}
 use Rattle.typing_kit.proofs.Laws.{Lawful, match_refl, match_trans, all_reverse}
 
+pub both : (a b : Bool) → a ≡ true → b ≡ true → (a && b) ≡ true
+both a b p q = ap (λ x. x && b) p ∙ q
+
+pub first_of_both : (a b : Bool) → (a && b) ≡ true → a ≡ true
+first_of_both true b e = refl
+first_of_both false b e = e
+
+pub second_of_both : (a b : Bool) → (a && b) ≡ true → b ≡ true
+second_of_both true b e = e
+second_of_both false b e = let no : ⊥ = cc in absurd no
+
 module _ {T : Type 0} (sub : T → T → Bool) where
   -- each operand matches the one at its place; where nothing reaches the place, the stack may go on below
   abbrev pub Covers : Bool → List (Operand T) → List (Operand T) → Type 0
@@ -82,24 +93,13 @@ module _ {T I : Type 0} (L : Language T I) (laws : Lawful L) where
   covers_refl dead [] = tt
   covers_refl dead (a ∷ s) = (match_refl L laws a, covers_refl dead s)
 
-  meets_from : (a : Operand T) (t : T) → Matches L.sub a (Known t) → meets L.sub a t ≡ true
+  pub meets_from : (a : Operand T) (t : T) → Matches L.sub a (Known t) → meets L.sub a t ≡ true
   meets_from (Known s) t m = m
   meets_from Bottom t m = refl
 
-  meets_to : (a : Operand T) (t : T) → meets L.sub a t ≡ true → Matches L.sub a (Known t)
+  pub meets_to : (a : Operand T) (t : T) → meets L.sub a t ≡ true → Matches L.sub a (Known t)
   meets_to (Known s) t m = m
   meets_to Bottom t m = tt
-
-  both : (a b : Bool) → a ≡ true → b ≡ true → (a && b) ≡ true
-  both a b p q = ap (λ x. x && b) p ∙ q
-
-  first_of_both : (a b : Bool) → (a && b) ≡ true → a ≡ true
-  first_of_both true b e = refl
-  first_of_both false b e = e
-
-  second_of_both : (a b : Bool) → (a && b) ≡ true → b ≡ true
-  second_of_both true b e = e
-  second_of_both false b e = let no : ⊥ = cc in absurd no
 
   -- a stack that stands for values of these types on others fits the types
   pub covers_fits : (dead : Bool) (s : List (Operand T)) (ts : List T) (a v : List (Operand T)) → AllMatch L.sub a (known ts) → Covers L.sub dead s (a ++ v) → (fit L.sub dead s ts ≡ true) × Covers L.sub dead (drop (length ts) s) v

@@ -5,3 +5,6 @@ pub mod Laws
 pub mod Covering
 pub mod Leading
 pub mod Forms
+pub mod Open
+pub mod Leaving
+pub mod Stepping
