@@ -4,3 +4,4 @@ pub mod Typing
 pub mod Leaf
 pub mod Stack
 pub mod Steps
+pub mod Bottomless
