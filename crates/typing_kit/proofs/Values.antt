@@ -1,17 +1,16 @@
 -- In a version without the type bot both sets of rules type the same code. From the rules with bot to those without it,
 -- types for the operands of type bot are chosen from the end of the code on.
-use Rattle.std.proofs.Common.{◌≡◌, ◌↔◌, Bool, true, false, List, [], ◌∷◌, ◌++◌, length, reverse, map, refl, ap, sym, subst, ◌∙◌}
+use Rattle.std.proofs.Common.{◌≡◌, ◌↔◌, true, List, [], ◌∷◌, ◌++◌, refl, ap, sym, subst, ◌∙◌}
 use Rattle.std.proofs.lemmas.List.{map-append}
 use Rattle.typing_kit.specs.declared.kind.Kind.{Kind}
-use Rattle.typing_kit.specs.declared.kind.Kind.TheVariants.{Plain}
 use Rattle.typing_kit.specs.declared.operand.Operand.{Operand}
 use Rattle.typing_kit.specs.declared.operand.Operand.TheVariants.{Known, Bottom}
 use Rattle.typing_kit.specs.Matching.{known, IsOf, Matches, AllMatch}
-use Rattle.typing_kit.specs.Form.{Form, Language, Flat, Any, Select, Leaves, Table, Block, Choice}
+use Rattle.typing_kit.specs.Form.{Language, Select}
 use Rattle.typing_kit.specs.Typing.{Typed, TypedCode}
 use Rattle.typing_kit.specs.Typing as rules
 use Rattle.typing_kit.specs.Bottomless.{IsBottomless, ValuesTyped, ValuesCode, flat, any, select, leaves, block, choice, none, more}
-use Rattle.typing_kit.proofs.Laws.{Lawful, lawful_of_equality, all_refl, all_trans, all_append, all_split}
+use Rattle.typing_kit.proofs.Laws.{Lawful, lawful_of_equality, all_refl, all_trans, all_append}
 
 module _ {T I : Type 0} (L : Language T I) (bottomless : IsBottomless L) where
   pub laws : Lawful L
@@ -141,5 +140,5 @@ module _ {T I : Type 0} (L : Language T I) (bottomless : IsBottomless L) where
   pub same_code : (ls : List (List T)) (code : List I) (stack after : List T) → TypedCode L ls code (known stack) (known after) ↔ ValuesCode L ls code stack after
   same_code ls code stack after = (
     λ c. inside ls code stack after (down_code c after (all_refl L laws (known after))),
-    λ c. up_code c
+    λ c. up_code c,
   )

@@ -5,3 +5,4 @@ pub mod Leaf
 pub mod Stack
 pub mod Steps
 pub mod Bottomless
+pub mod Progress
