@@ -1,0 +1,2 @@
+//! The typing of modules of WebAssembly 1.0, decided exactly.
+#![tactic(auto)]
