@@ -2,14 +2,13 @@
 use Rattle.std.proofs.Common.{◌≡◌, ℕ, Option, Some, None, [], refl}
 use Rattle.lane_core.specs.declared.operators.named.LaneOp.{LaneOp}
 use Rattle.lane_core.specs.declared.operators.named.LaneOp.TheVariants.{Load, Store, LoadLane, StoreLane, Const, Shuffle, Splat, Extract, Replace, Bitselect, One, Two, Shift, Test}
-use Rattle.grammar_kit.specs.Form.{Form}
 use Rattle.grammar_kit.specs.Exact.{Exact}
-use Rattle.grammar_kit.proofs.Combinators.{exact_rules, exact_always}
+use Rattle.grammar_kit.proofs.Combinators.{exact_rules}
 use Rattle.wasm_frame.proofs.Spelling.{exact_numbers}
 use Rattle.nested_code.proofs.Exactness as nested
 use Rattle.code_new.specs.Instructions.{br_table, select_typed, access, constant, reference, saturating_or_bulk, behind_fc}
 use Rattle.code_new.specs.Vectors.{lane_instr, float_lanes, named_or_float, behind_fd}
-use Rattle.code_new.specs.Tokens.{control_at, instr_at, head_at, token_at, token, has_arms, build}
+use Rattle.code_new.specs.Tokens.{control_at, instr_at, opened, try_table, head_at, token_at, token, has_arms, build}
 use Rattle.code_new.specs.Code.{expr}
 use Rattle.code_new.proofs.TypeForms.{exact_heap_type, exact_value_type, exact_block_type, exact_mem_arg, exact_clause}
 
@@ -78,9 +77,17 @@ exact_instr_at : (b : ℕ) → Exact (instr_at b)
 unfolding instr_at
 exact_instr_at b = search (exact_rules, exact_numbers, exact_access, exact_constant, exact_behind_fc, exact_behind_fd, exact_reference) depth 24
 
+exact_opened : (b : ℕ) → Exact (opened b)
+unfolding opened
+exact_opened b = search (exact_rules, exact_block_type) depth 12
+
+exact_try_table : Exact try_table
+unfolding try_table
+exact_try_table = search (exact_rules, exact_numbers, exact_block_type, exact_clause) depth 12
+
 exact_head_at : (b : ℕ) → Exact (head_at b)
 unfolding head_at
-exact_head_at b = search (exact_rules, exact_numbers, exact_block_type, exact_clause, exact_control_at) depth 24
+exact_head_at b = search (exact_rules, exact_opened, exact_try_table, exact_control_at) depth 24
 
 exact_token_at : (b : ℕ) → Exact (token_at b)
 unfolding token_at

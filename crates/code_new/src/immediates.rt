@@ -1,10 +1,11 @@
 // Immediates of instructions, as the binary format spells them.
 
+ghost use Rattle.std.specs.Prelude.{◌≡◌};
 ghost use Rattle.grammar_kit.specs.Form.{raw, many, vector};
 ghost use Rattle.grammar_kit.specs.Gives.{Gives, GivesOption};
 ghost use Rattle.wasm_frame.specs.Leb128.{u32};
 ghost use Rattle.code_new.specs.Types.{value_type};
-ghost use Rattle.code_new.specs.Immediates.{offset_at, mem_arg, clause};
+ghost use Rattle.code_new.specs.Immediates.{offset_at, mem_arg, tag_clause_of, all_clause_of, clause};
 
 use crate::types::split_value_type;
 use grammar_kit::{Entry, FormError, read_byte, read_many};
@@ -52,33 +53,44 @@ pub fn split_mem_arg(bytes: &[u8]) -> Option<(MemArg, &[u8])>
     }
 }
 
+/// The catch clause of this kind for a tag, with its index and a label.
+#[tactic(auto, unfolding(crate::specs::Immediates::tag_clause_of))]
+fn tag_clause_of(kind: u8, tag: u32, label: u32) -> Option<Catch>
+    ensures { result ≡ tag_clause_of kind tag label }
+{
+    match kind {
+        0x00 => Some(Catch::Tag(tag, label)),
+        0x01 => Some(Catch::TagRef(tag, label)),
+        _ => None,
+    }
+}
+
+/// The catch clause of this kind for all tags, with a label.
+#[tactic(auto, unfolding(crate::specs::Immediates::all_clause_of))]
+fn all_clause_of(kind: u8, label: u32) -> Option<Catch>
+    ensures { result ≡ all_clause_of kind label }
+{
+    match kind {
+        0x02 => Some(Catch::All(label)),
+        0x03 => Some(Catch::AllRef(label)),
+        _ => None,
+    }
+}
+
 /// The catch clause at the front, and the bytes after it.
 #[tactic(auto, unfolding(crate::specs::Immediates::clause))]
 fn split_clause(bytes: &[u8]) -> Option<(Catch, &[u8])>
     ensures { GivesOption (λ p. (p.0, p.1.now)) result (clause.read bytes.now) }
 {
     let (kind, rest) = read_byte(bytes)?;
-    match kind {
-        0x00 => {
-            let (tag, rest) = split_u32(rest)?;
-            let (label, rest) = split_u32(rest)?;
-            Some((Catch::Tag(tag, label), rest))
-        }
-        0x01 => {
-            let (tag, rest) = split_u32(rest)?;
-            let (label, rest) = split_u32(rest)?;
-            Some((Catch::TagRef(tag, label), rest))
-        }
-        0x02 => {
-            let (label, rest) = split_u32(rest)?;
-            Some((Catch::All(label), rest))
-        }
-        0x03 => {
-            let (label, rest) = split_u32(rest)?;
-            Some((Catch::AllRef(label), rest))
-        }
-        _ => None,
+    let (first, rest) = split_u32(rest)?;
+    if kind < 0x02 {
+        let (label, rest) = split_u32(rest)?;
+        let clause = tag_clause_of(kind, first, label)?;
+        return Some((clause, rest));
     }
+    let clause = all_clause_of(kind, first)?;
+    Some((clause, rest))
 }
 
 /// A catch clause in a list.

@@ -1,0 +1,13 @@
+// Tests of the crates that read and write bytes, in a crate of their own, since a crate with tests is proved twice.
+#![tactic(auto)]
+
+#[cfg(test)]
+mod code;
+#[cfg(test)]
+mod core1;
+#[cfg(test)]
+mod opcodes;
+#[cfg(test)]
+mod rows;
+#[cfg(test)]
+mod simd;
