@@ -5,3 +5,4 @@ pub mod Imports
 pub mod Measured
 pub mod Owed
 pub mod Told
+pub mod TypeSizes
