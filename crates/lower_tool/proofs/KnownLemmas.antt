@@ -1,10 +1,11 @@
 -- Known bytes that grow piece by piece.
-use Rattle.std.proofs.Common.{◌≡◌, ℕ, ◌+◌, List, ◌++◌, take, drop, sym, ◌∙◌, ap, append_assoc}
+use Rattle.std.proofs.Common.{◌≡◌, ℕ, ◌+◌, List, [], ◌++◌, take, drop, sym, ◌∙◌, ap, append_assoc}
 use Rattle.std.proofs.Math.Seq.{take-add}
-use Rattle.std.proofs.lemmas.List.{take-append-drop}
-use Rattle.std.specs.Prelude.{Option, Some, None, Result, Ok, Err, OnErr}
+use Rattle.std.proofs.lemmas.List.{append-nil, take-append-drop}
+use Rattle.std.specs.Prelude.{Option, Some, None, Result, Ok, Err, OnOk, OnErr}
 use Rattle.std.specs.Io.KnownBytes.{Appends, Consumes, Keeps}
-use Rattle.lower_tool.specs.Statuses.{IsFrontOf}
+use Rattle.tool_files.specs.Causes.{HasCause}
+use Rattle.lower_tool.specs.Statuses.{IsFrontOf, AppendsFront, Prints}
 
 -- the first bytes of a text are a front of it
 pub IsFrontOf-take : (n : ℕ) (text : List ℕ) → IsFrontOf (take n text) text
@@ -42,3 +43,10 @@ Consumes-append (Some a) (Some b) (Some c) xs ys first second =
 pub OnErr-anyway : {T E P : Type 0} → (r : Result T E) → P → OnErr r P
 OnErr-anyway (Ok x) h = tt
 OnErr-anyway (Err e) h = h
+
+-- a text that is printed until a fault cuts it short
+pub prints_from : {E : Type 0} (written now : Option (List ℕ)) (faults faults_now : ℕ) (text : List ℕ) (r : Result (Unit {0}) E) → HasCause faults faults_now r → OnOk r (Appends written now text) → OnErr r (AppendsFront written now text) → Prints written now faults faults_now text
+prints_from written now faults faults_now text (Ok done) cause whole cut =
+    record { part = text; is_front = ([], sym (append-nil text)); appends = whole; whole = λ calm. whole }
+prints_from written now faults faults_now text (Err fault) cause whole cut =
+    record { part = cut.0; is_front = cut.1; appends = cut.2; whole = λ calm. absurd (calm cause.failed) }

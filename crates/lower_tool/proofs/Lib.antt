@@ -1,5 +1,6 @@
 pub mod Arrows
 pub mod CoreFiles
+pub mod Delivering
 pub mod Image
 pub mod KnownLemmas
 pub mod Linked
@@ -8,5 +9,6 @@ pub mod SameEvents
 pub mod Shown
 pub mod Simulation
 pub mod Soundness
+pub mod Stopping
 pub mod TypedLowered
 pub mod WordLemmas

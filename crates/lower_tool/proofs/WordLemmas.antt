@@ -1,4 +1,4 @@
--- A list of three items is those items.
+-- A list of three items, or of two, is those items.
 use Rattle.std.proofs.Common.{◌≡◌, ◌<◌, ◌≤◌, List, [], ◌∷◌, length, get_or, arith}
 
 pub three_items : {A : Type 0} → (xs : List A) (a b c : A) → 3 ≤ length xs → length xs < 4 → a ≡ get_or xs 0 a → b ≡ get_or xs 1 b → c ≡ get_or xs 2 c → xs ≡ a ∷ b ∷ c ∷ []
@@ -7,3 +7,9 @@ three_items (x ∷ []) a b c least most p q r = absurd (omega arith)
 three_items (x ∷ y ∷ []) a b c least most p q r = absurd (omega arith)
 three_items (x ∷ y ∷ z ∷ []) a b c least most p q r = cc
 three_items (x ∷ y ∷ z ∷ w ∷ more) a b c least most p q r = absurd (omega arith)
+
+pub two_items : {A : Type 0} → (xs : List A) (a b : A) → 2 ≤ length xs → length xs < 3 → a ≡ get_or xs 0 a → b ≡ get_or xs 1 b → xs ≡ a ∷ b ∷ []
+two_items [] a b least most p q = absurd (omega arith)
+two_items (x ∷ []) a b least most p q = absurd (omega arith)
+two_items (x ∷ y ∷ []) a b least most p q = cc
+two_items (x ∷ y ∷ z ∷ more) a b least most p q = absurd (omega arith)

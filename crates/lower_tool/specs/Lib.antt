@@ -1,4 +1,5 @@
 pub mod Bare
+pub mod Commands
 pub mod Constants
 pub mod Core
 pub mod CoreFiles
@@ -9,6 +10,7 @@ pub mod Lowered
 pub mod Lowering
 pub mod MappedInterface
 pub mod Mapping
+pub mod Products
 pub mod Room
 pub mod Statuses
 pub mod Stops

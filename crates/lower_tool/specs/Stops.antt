@@ -1,13 +1,15 @@
 -- Why a command stops before it writes, and what is printed then.
 use Rattle.std.specs.Prelude.{ℕ, List, ◌++◌, codes, ⊤}
-use Rattle.read_new.specs.declared.fault.ReadFault.{ReadFault}
-use Rattle.read_new.specs.declared.fault.ReadFault.TheVariants as fault
+use Rattle.module_reading.specs.declared.fault.ReadFault.{ReadFault}
+use Rattle.module_reading.specs.declared.fault.ReadFault.TheVariants as fault
+use Rattle.valid_core1.specs.declared.invalid.Invalid.{Invalid}
+use Rattle.valid_core1.specs.declared.invalid.Invalid.TheVariants as invalid
+use Rattle.lower_tool.specs.declared.verdict.NotFine.{NotFine}
+use Rattle.lower_tool.specs.declared.verdict.NotFine.TheVariants as verdict
 use Rattle.lower_tool.specs.declared.verdict.Refusal.{Refusal}
-use Rattle.lower_tool.specs.declared.verdict.Refusal.TheVariants.{Unreadable}
+use Rattle.lower_tool.specs.declared.verdict.Refusal.TheVariants.{Unreadable, Part, Body}
 use Rattle.lower_tool.specs.declared.tool.stop.Stop.{Stop}
 use Rattle.lower_tool.specs.declared.tool.stop.Stop.TheVariants.{Refused, CannotRead, OutOfMemory}
-use Rattle.lower_tool.specs.declared.lowering.LowerFault.{LowerFault}
-use Rattle.lower_tool.specs.declared.lowering.LowerFault.TheVariants as lower
 use Rattle.lower_tool.specs.Statuses.{line}
 use Rattle.lower_tool.specs.Verdict.{text_of}
 
@@ -17,20 +19,26 @@ IfRefused (Refused refusal) P = P refusal
 IfRefused CannotRead P = ⊤
 IfRefused OutOfMemory P = ⊤
 
--- the same of bytes that were not lowered
-abbrev pub IfNotLowered : LowerFault → (Refusal → Type 0) → Type 0
-IfNotLowered (lower.Refused refusal) P = P refusal
-IfNotLowered (lower.Memory error) P = ⊤
+-- the same of bytes
+abbrev pub IfNotFine : NotFine → (Refusal → Type 0) → Type 0
+IfNotFine (verdict.Refused refusal) P = P refusal
+IfNotFine (verdict.Memory error) P = ⊤
 
--- why bytes that were not read are not lowered
-abbrev pub fault_of : ReadFault → LowerFault
-fault_of (fault.Memory error) = lower.Memory error
-fault_of other = lower.Refused (Unreadable other)
+-- why bytes that were not read are not fine
+abbrev pub of_reading : ReadFault → NotFine
+of_reading (fault.Memory error) = verdict.Memory error
+of_reading other = verdict.Refused (Unreadable other)
 
--- what a fault of the lowering stops a command for
-abbrev pub stop_of : LowerFault → Stop
-stop_of (lower.Refused refusal) = Refused refusal
-stop_of (lower.Memory error) = OutOfMemory
+-- why a module that is not typed is not fine
+abbrev pub of_typing : Invalid → NotFine
+of_typing (invalid.Part section index) = verdict.Refused (Part section index)
+of_typing (invalid.Body place) = verdict.Refused (Body place)
+of_typing (invalid.Memory error) = verdict.Memory error
+
+-- what a command stops for where bytes are not fine
+abbrev pub stop_of : NotFine → Stop
+stop_of (verdict.Refused refusal) = Refused refusal
+stop_of (verdict.Memory error) = OutOfMemory
 
 -- what is printed
 abbrev pub text_of_stop : Stop → List ℕ

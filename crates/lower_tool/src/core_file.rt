@@ -1,49 +1,38 @@
 // Whether a file that spells a module is a core module's.
 
-ghost use Rattle.std.specs.Prelude.{◌≡◌, ◌≤◌, ◌↔◌, ℕ, List, map, length, IsTrue, IfOk, All, MatchOption, option_map};
+ghost use Rattle.std.specs.Prelude.{◌≡◌, ◌↔◌, map, IsTrue, IfOk, MatchOption, option_map};
 ghost use Rattle.grammar_kit.specs.Gives.{GivesOption};
 ghost use Rattle.wasm_frame.specs.declared.sections.Version.TheVariants.{Three};
-ghost use Rattle.wasm_frame.specs.Frame.{Part, Frame, Whole, IsWithin, parts_of};
-ghost use Rattle.lower_tool.specs.CoreFiles.{core_ids, first_groups, HasNoGroup, AreCoreParts, SpellsCore};
+ghost use Rattle.wasm_frame.specs.Frame.{Frame, Whole};
 ghost use Rattle.read_new.specs.Spells.{Spells};
+ghost use Rattle.lower_tool.specs.CoreFiles.{core_ids, first_groups, HasNoGroup, AreCoreParts, SpellsCore};
 
 mod module;
 mod typing;
 
 use module::is_core;
+use module_reading::File;
 use std::alloc::{AllocError, Global};
 use wasm_ast::module::Module;
 use wasm_frame::leb128::split_u32;
-use wasm_frame::payloads::payload_of;
-use wasm_frame::sections::{FrameFault, Section, Version, sections};
+use wasm_frame::sections::Section;
 
 /// Whether a file is a core module's, given the module that it spells: a core module, by the sections that it needs alone,
 /// and with no group of locals. It fails for want of memory alone.
-pub fn is_core_file(alloc: Global, b: &[u8], m: &Module) -> Result<bool, AllocError>
-    requires size { length b.now ≤ 67108864 }
-    requires spells { Spells b.now m.now }
-    ensures { IfOk result (λ yes. IsTrue yes ↔ SpellsCore b.now m.now) }
+pub fn is_core_file(alloc: Global, file: &File<'_>, m: &Module) -> Result<bool, AllocError>
+    requires version { file.now.version ≡ Three }
+    requires spells { Spells file.now.bytes m.now }
+    ensures { IfOk result (λ yes. IsTrue yes ↔ SpellsCore file.now.bytes m.now) }
 {
-    Ok(has_core_parts(alloc, b)? && is_core(alloc, m)?)
+    Ok(has_core_parts(file) && is_core(alloc, m)?)
 }
 
 /// Whether the sections of a file are those of a core module.
-fn has_core_parts(alloc: Global, b: &[u8]) -> Result<bool, AllocError>
-    ensures { (parts : List Part) → Frame Three b.now parts Whole → IfOk result (λ yes. IsTrue yes ↔ AreCoreParts parts) }
+fn has_core_parts(file: &File<'_>) -> bool
+    ensures core { IsTrue result ↔ AreCoreParts file.now.parts }
+    ensures frame { Frame file.now.version file.now.bytes file.now.parts Whole }
 {
-    let found = match sections(alloc, b, Version::Three) {
-        Ok(found) => found,
-        Err(FrameFault::Memory(error)) => return Err(error),
-        Err(_) => return Ok(false),
-    };
-    Ok(are_core_parts(b, found.as_slice()))
-}
-
-fn are_core_parts(b: &[u8], found: &[Section]) -> bool
-    requires { All (IsWithin b.now) found.now }
-    ensures { IsTrue result ↔ AreCoreParts (parts_of b.now found.now) }
-{
-    has_core_ids(found) && begins_plain(payload_of(b, found, 10))
+    has_core_ids(file.sections()) && begins_plain(file.payload(10))
 }
 
 /// Whether there is a code section, whose first body declares no group of locals.

@@ -5,6 +5,7 @@ ghost use Rattle.lower_tool.specs.Headline.{Same};
 ghost use Rattle.lower_tool.specs.Distinct.{extending, returning, shifting, behind_an_import};
 ghost use Rattle.lower_tool.specs.MappedInterface.{SameInterface};
 ghost use Rattle.lower_tool.specs.Verdict.{IsFine, IsRefusal};
+ghost use Rattle.lower_tool.specs.Words.{Command};
 
 /// The headline tells modules apart: a module that extends the sign of its argument is not the same as one that
 /// returns its argument.
@@ -18,8 +19,8 @@ pub fn imports_are_told_apart()
     ensures imported { SameInterface extending behind_an_import → ⊥ }
 {}
 
-/// A file has one verdict: it is refused with one text at most, and with none where it is fine.
+/// A file has one verdict for each command: it is refused with one text at most, and with none where it is fine.
 pub fn one_verdict()
-    ensures one_text { (bytes text other : List ℕ) → IsRefusal bytes text → IsRefusal bytes other → text ≡ other }
-    ensures not_fine { (bytes text : List ℕ) → IsRefusal bytes text → ¬ (IsFine bytes) }
+    ensures one_text { (command : Command) (bytes text other : List ℕ) → IsRefusal command bytes text → IsRefusal command bytes other → text ≡ other }
+    ensures not_fine { (command : Command) (bytes text : List ℕ) → IsRefusal command bytes text → ¬ (IsFine command bytes) }
 {}

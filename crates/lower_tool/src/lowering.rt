@@ -1,70 +1,55 @@
 // From the bytes of a core module of 3.0 to the bytes of a module of 1.0.
 
-ghost use Rattle.std.specs.Prelude.{◌≡◌, ℕ, ◌≤◌, length, IfOk, IfErr, OnOk};
+ghost use Rattle.std.specs.Prelude.{◌≡◌, ℕ, ◌≤◌, length, Ok, IfOk, IfErr, OnOk};
+ghost use Rattle.wasm_frame.specs.declared.sections.Version.TheVariants.{Three};
+ghost use Rattle.module_reading.specs.Reads.{Reads};
+ghost use Rattle.read_new.specs.Spells.{three};
 ghost use Rattle.lower_tool.specs.Core.{IsCore};
 ghost use Rattle.lower_tool.specs.Lowering.{IsCoreFile, IsWrittenFor, Lowers, default_captures};
-ghost use Rattle.lower_tool.specs.Stops.{IfNotLowered, fault_of};
-ghost use Rattle.lower_tool.specs.Verdict.{Refuses};
+ghost use Rattle.lower_tool.specs.Stops.{IfNotFine};
+ghost use Rattle.lower_tool.specs.Verdict.{file_limit, Refuses3};
 
 mod code;
 mod module;
 
 use crate::core_file::is_core_file;
-use crate::verdict::Refusal;
+use crate::verdict::{NotFine, Refusal};
 use core1_bytes::write1;
 use module::lower_core;
 use num_core::lists::Bytes;
-use read_new::{ReadFault, read};
+use module_reading::File;
+use read_new::read_file;
 use std::alloc::{AllocError, Global};
-use thiserror::Error;
 use wasm_ast::module::Module;
+use wasm_frame::sections::Version;
 
-/// Why bytes were not lowered.
-#[derive(Debug, Drop, Error)]
-pub enum LowerFault {
-    /// The verdict on them is not fine.
-    #[error("refused: {0}")]
-    Refused(Refusal),
-    /// No memory was found.
-    #[error("out of memory")]
-    Memory(AllocError),
-}
-
-impl From<AllocError> for LowerFault {
-    ghost use Rattle.lower_tool.specs.declared.lowering.LowerFault.TheVariants.{Memory};
-
-    ghost from_gives = { λ error e. e ≡ Memory error };
-
-    fn from(error: AllocError) -> LowerFault {
-        LowerFault::Memory(error)
-    }
-}
-
-impl From<ReadFault> for LowerFault {
-    ghost from_gives = { λ error fault. fault ≡ fault_of error };
-
-    fn from(error: ReadFault) -> LowerFault {
-        match error {
-            ReadFault::Memory(error) => LowerFault::Memory(error),
-            fault => LowerFault::Refused(Refusal::Unreadable(fault)),
-        }
-    }
-}
-
-#[tactic(auto, unfolding(crate::specs::Lowering::IsCoreFile))]
 /// The lowered module. It takes the bytes of a core module, and refuses all others by the first step of the verdict
 /// that holds.
-pub fn lower_bytes(alloc: Global, bytes: &[u8]) -> Result<Bytes, LowerFault>
-    requires { length bytes.now ≤ 67108864 }
+pub fn lower_bytes(alloc: Global, bytes: &[u8]) -> Result<Bytes, NotFine>
+    requires { length bytes.now ≤ file_limit }
     ensures lowered { IfOk result (λ out. Lowers default_captures bytes.now out) }
     ensures core { OnOk result (IsCoreFile bytes.now) }
-    ensures refused { IfErr result (λ fault. IfNotLowered fault (λ refusal. Refuses refusal bytes.now)) }
+    ensures refused { IfErr result (λ fault. IfNotFine fault (λ refusal. Refuses3 refusal bytes.now)) }
 {
-    let source = read(alloc, bytes)?;
-    if !is_core_file(alloc, bytes, &source)? {
-        return Err(LowerFault::Refused(Refusal::NotBuiltCore));
+    let file = File::open(alloc, bytes, Version::Three)?;
+    let source = read_file(alloc, &file)?;
+    lower_file(alloc, &file, &source)
+}
+
+/// The same of a file and the module that it is read as.
+#[tactic(auto, unfolding(crate::specs::Lowering::IsCoreFile))]
+fn lower_file(alloc: Global, file: &File<'_>, source: &Module) -> Result<Bytes, NotFine>
+    requires version { file.now.version ≡ Three }
+    requires within { length file.now.bytes ≤ file_limit }
+    requires reads { Reads three file.now.bytes (Ok source.now) }
+    ensures lowered { IfOk result (λ out. Lowers default_captures file.now.bytes out) }
+    ensures core { OnOk result (IsCoreFile file.now.bytes) }
+    ensures refused { IfErr result (λ fault. IfNotFine fault (λ refusal. Refuses3 refusal file.now.bytes)) }
+{
+    if !is_core_file(alloc, file, source)? {
+        return Err(NotFine::Refused(Refusal::NotBuiltCore));
     }
-    Ok(write_lowered(alloc, &source)?)
+    Ok(write_lowered(alloc, source)?)
 }
 
 /// The bytes of the lowered module of a core module. It fails for want of memory alone.

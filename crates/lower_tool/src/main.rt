@@ -1,6 +1,7 @@
 // The program `wasm1`: it lowers a module of WebAssembly 3.0 to a module of 1.0.
 #![tactic(auto)]
 
+mod checking;
 mod core_file;
 pub mod files;
 pub mod laws;

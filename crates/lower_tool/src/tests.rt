@@ -2,7 +2,7 @@
 
 ghost use Rattle.std.specs.Prelude.{◌≡◌, ◌≢◌, ◌<◌, [], ◌∷◌, IfOk, codes};
 ghost use Rattle.tool_files.specs.Safe.{IsHeld};
-ghost use Rattle.lower_tool.specs.Words.{IsLower};
+ghost use Rattle.lower_tool.specs.Words.{words_of, lower};
 
 use crate::files::{FailAt, MemFiles, SafeFiles};
 use crate::sink::{MemSink, SafeSink};
@@ -256,11 +256,86 @@ fn one_memory_past_the_limit(rt: HostRuntime) -> Result<(), Fail> {
 }
 
 #[test]
+fn files_of_1_0(rt: HostRuntime) -> Result<(), Fail> {
+    let alloc = rt.alloc();
+    // What stands behind the head: nothing, a count of 5 and of 6 bytes, a type with a float, a memory whose greatest size
+    // is below its least, and a function of type [] -> [i32] whose body is empty.
+    let rows: [(&[u8], u8, &str); 6] = [
+        (b"", 0, "ok\n"),
+        (b"\x01\x05\x80\x80\x80\x80\x00", 0, "ok\n"),
+        (
+            b"\x01\x06\x80\x80\x80\x80\x80\x00",
+            1,
+            "refused: section 0\n",
+        ),
+        (b"\x01\x05\x01\x60\x01\x7D\x00", 1, "refused: outside: floats\n"),
+        (b"\x05\x04\x01\x01\x02\x01", 1, "refused: invalid: part 5 0\n"),
+        (
+            b"\x01\x05\x01\x60\x00\x01\x7F\x03\x02\x01\x00\x0A\x04\x01\x02\x00\x0B",
+            1,
+            "refused: invalid: body 0\n",
+        ),
+    ];
+    for (sections, status, printed) in rows {
+        let mut bytes = EXTEND[..8].to_vec(alloc)?;
+        bytes.extend_from_slice(sections)?;
+        assert!(rt; is_checked(alloc, bytes, CALM, status, printed)?);
+    }
+    // The lowered example; what it was lowered from has an instruction that 1.0 lacks.
+    assert!(rt; is_checked(alloc, LOWERED.to_vec(alloc)?, CALM, 0, "ok\n")?);
+    assert!(rt; is_checked(alloc, EXTEND.to_vec(alloc)?, CALM, 1, "refused: body 0\n")?);
+    Ok(())
+}
+
+/// Whether `check1` of a file ends with this status and prints this.
+fn is_checked(
+    alloc: Global,
+    bytes: Vec<u8>,
+    failing: Failing,
+    status: u8,
+    printed: &str,
+) -> Result<bool, AllocError>
+    requires { 0 < failing.most }
+{
+    let outcome = Outcome {
+        status,
+        printed,
+        written: None,
+    };
+    comes_to(alloc, &["check1", "a"], bytes, failing, outcome)
+}
+
+#[test]
+fn one_fault_of_a_check(rt: HostRuntime) -> Result<(), Fail> {
+    let alloc = rt.alloc();
+    // Which call of begin, take and print fails, the status, and what is printed.
+    let rows: [(u64, u64, u64, u8, &str); 4] = [
+        (1, 0, 0, 3, "cannot read\n"),
+        (0, 2, 0, 3, "cannot read\n"),
+        (0, 0, 1, 4, ""),
+        (0, 0, 2, 4, "ok"),
+    ];
+    for (begin, take, print, status, printed) in rows {
+        let failing = Failing {
+            begin,
+            take,
+            print,
+            ..CALM
+        };
+        assert!(rt; is_checked(alloc, LOWERED.to_vec(alloc)?, failing, status, printed)?);
+    }
+    Ok(())
+}
+
+#[test]
 fn other_words_are_no_command(rt: HostRuntime) -> Result<(), Fail> {
     let alloc = rt.alloc();
     // The words, which call of print fails, the status, and what is printed.
-    let rows: [(&[&str], u64, u8, &str); 5] = [
+    let rows: [(&[&str], u64, u8, &str); 8] = [
         (&["lower", "absent", "b"], 0, 3, "cannot read\n"),
+        (&["check1", "absent"], 0, 3, "cannot read\n"),
+        (&["check1"], 0, 2, "usage\n"),
+        (&["check1", "a", "b"], 0, 2, "usage\n"),
         (&["lower", "a"], 0, 2, "usage\n"),
         (&["lower", "a", "b", "16"], 0, 2, "usage\n"),
         (&["--help"], 1, 2, ""),
@@ -298,7 +373,7 @@ fn one_byte_past_the_limit(rt: HostRuntime) -> Result<(), Fail> {
 
 /// The words `lower a b`.
 fn lower_a_b(alloc: Global) -> Result<Texts, AllocError>
-    ensures { IfOk result (λ words. IsLower words (codes "a") (codes "b")) }
+    ensures { IfOk result (λ words. words ≡ words_of (lower (codes "a") (codes "b"))) }
 {
     let mut words = Texts::new(alloc);
     words.push(Text::new(alloc, "lower")?)?;
@@ -314,7 +389,7 @@ fn tool_without_faults(
     files: &mut SafeFiles,
     out: &mut SafeSink,
 ) -> u8
-    requires words { IsLower words.now (codes "a") (codes "b") }
+    requires words { words.now ≡ words_of (lower (codes "a") (codes "b")) }
     requires held { IsHeld files.old (codes "a") }
     ensures reads { result ≢ 3 }
     ensures writes { result ≢ 4 }

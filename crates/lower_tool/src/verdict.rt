@@ -1,11 +1,15 @@
 // The verdict on a file.
 
-ghost use Rattle.std.specs.Prelude.{Some};
+ghost use Rattle.std.specs.Prelude.{◌≡◌, Some};
 ghost use Rattle.lower_tool.specs.Verdict.{text_of};
+ghost use Rattle.lower_tool.specs.Stops.{of_reading, of_typing};
+ghost use Rattle.lower_tool.specs.declared.verdict.NotFine.TheVariants.{Memory};
 
-use read_new::ReadFault;
+use module_reading::ReadFault;
+use std::alloc::AllocError;
 use std::fmt;
 use thiserror::Error;
+use valid_core1::Invalid;
 
 /// The first step of the verdict that refuses a file.
 #[derive(Debug, Drop, Error)]
@@ -14,8 +18,14 @@ pub enum Refusal {
     TooLarge,
     /// The file cannot be read, for this fault. Want of memory is no such fault.
     Unreadable(ReadFault),
-    /// The file can be read, and is no core module.
+    /// Floats occur in the module of 1.0.
+    Floats,
+    /// The module can be read, and is no core module of 3.0.
     NotBuiltCore,
+    /// Of the parts of the module, the first that is not typed: the id of its section, and its place in that section.
+    Part(u8, u32),
+    /// All parts are typed, and the body at this place in the code section is the first that is not.
+    Body(u32),
 }
 
 impl fmt::Display for Refusal {
@@ -25,7 +35,52 @@ impl fmt::Display for Refusal {
         match self {
             Refusal::TooLarge => write!(f, "too large"),
             Refusal::Unreadable(fault) => write!(f, "{fault}"),
+            Refusal::Floats => write!(f, "outside: floats"),
             Refusal::NotBuiltCore => write!(f, "outside: not built core"),
+            Refusal::Part(section, index) => write!(f, "invalid: part {section} {index}"),
+            Refusal::Body(place) => write!(f, "invalid: body {place}"),
+        }
+    }
+}
+
+/// Why bytes are not what a command needs.
+#[derive(Debug, Drop, Error)]
+pub enum NotFine {
+    /// The verdict on them is not fine.
+    #[error("refused: {0}")]
+    Refused(Refusal),
+    /// No memory was found.
+    #[error("out of memory")]
+    Memory(AllocError),
+}
+
+impl From<AllocError> for NotFine {
+    ghost from_gives = { λ error fault. fault ≡ Memory error };
+
+    fn from(error: AllocError) -> NotFine {
+        NotFine::Memory(error)
+    }
+}
+
+impl From<ReadFault> for NotFine {
+    ghost from_gives = { λ error fault. fault ≡ of_reading error };
+
+    fn from(error: ReadFault) -> NotFine {
+        match error {
+            ReadFault::Memory(error) => NotFine::Memory(error),
+            fault => NotFine::Refused(Refusal::Unreadable(fault)),
+        }
+    }
+}
+
+impl From<Invalid> for NotFine {
+    ghost from_gives = { λ error fault. fault ≡ of_typing error };
+
+    fn from(error: Invalid) -> NotFine {
+        match error {
+            Invalid::Part { section, index } => NotFine::Refused(Refusal::Part(section, index)),
+            Invalid::Body(place) => NotFine::Refused(Refusal::Body(place)),
+            Invalid::Memory(error) => NotFine::Memory(error),
         }
     }
 }

@@ -1,16 +1,38 @@
-ghost use Rattle.std.specs.Prelude.{MatchOption};
-ghost use Rattle.lower_tool.specs.Words.{IsLower, IsCommand};
+ghost use Rattle.std.specs.Prelude.{◌≡◌, MatchOption};
+ghost use Rattle.lower_tool.specs.Commands.{command_of};
+ghost use Rattle.lower_tool.specs.Words.{IsCommand, words_of, input_of};
 
 use num_core::lists::Text;
 
+/// A command with the names that its words give.
+#[derive(Clone, Copy)]
+pub enum Command<'a> {
+    /// `lower IN OUT`: OUT becomes the lowered module of IN.
+    Lower(&'a str, &'a str),
+    /// `check1 IN`: whether IN is a valid module of 1.0.
+    Check1(&'a str),
+}
+
+impl<'a> Command<'a> {
+    /// The name of the file that it reads.
+    pub fn input(self) -> &'a str
+        ensures { result.now ≡ input_of (command_of self.entry) }
+    {
+        match self {
+            Command::Lower(input, _) | Command::Check1(input) => input,
+        }
+    }
+}
+
 /// The command that the words are, if they are one.
-pub fn command(words: &[Text]) -> Option<(&str, &str)>
-    ensures { MatchOption result (¬ IsCommand words.now) (λ names. IsLower words.now names.0.now names.1.now) }
+pub fn parse(words: &[Text]) -> Option<Command<'_>>
+    ensures { MatchOption result (¬ IsCommand words.now) (λ command. words.now ≡ words_of (command_of command)) }
 {
     match words {
         [word, input, output] if word.as_str() == "lower" => {
-            Some((input.as_str(), output.as_str()))
+            Some(Command::Lower(input.as_str(), output.as_str()))
         }
+        [word, input] if word.as_str() == "check1" => Some(Command::Check1(input.as_str())),
         _ => None,
     }
 }

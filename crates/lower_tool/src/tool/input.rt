@@ -1,9 +1,10 @@
-ghost use Rattle.std.specs.Prelude.{◌≡◌, ℕ, ◌≤◌, List, length, IsTrue, IfOk, IfErr, IfSome, IsErrOf};
+ghost use Rattle.std.specs.Prelude.{◌≡◌, ℕ, ◌<◌, ◌≤◌, List, length, IsTrue, IfOk, IfErr, IfSome, IsErrOf};
+ghost use Rattle.lower_tool.specs.declared.verdict.Refusal.TheVariants.{TooLarge};
 ghost use Rattle.tool_files.specs.Causes.{Rose};
 ghost use Rattle.tool_files.specs.Held.{WhereTold};
 ghost use Rattle.lower_tool.specs.Statuses.{TakesWithinLimit};
 ghost use Rattle.lower_tool.specs.Stops.{IfRefused};
-ghost use Rattle.lower_tool.specs.Verdict.{file_limit, Refuses};
+ghost use Rattle.lower_tool.specs.Verdict.{file_limit};
 
 use super::stop::Stop;
 use crate::files::Files;
@@ -22,7 +23,7 @@ pub fn read_file<F: Files>(alloc: Global, name: &str, files: &mut F) -> Result<B
     requires { F.can_begin files.old name.now }
     ensures limit { IfOk result (λ bytes. length bytes ≤ file_limit) }
     ensures whole { IfOk result (λ bytes. WhereTold (F.holds files.old) name.now (λ held. bytes ≡ held)) }
-    ensures refused { IfErr result (λ stop. IfRefused stop (λ refusal. WhereTold (F.holds files.old) name.now (Refuses refusal))) }
+    ensures refused { IfErr result (λ stop. IfRefused stop (λ refusal. (refusal ≡ TooLarge) × WhereTold (F.holds files.old) name.now (λ held. file_limit < length held))) }
     ensures read { IsErrOf result Stop.CannotRead → Rose (F.read_faults files.old) (F.read_faults files.new) }
     ensures taken { IsTrue (F.is_reading files.new) → IfSome (F.holds files.old) (λ held. TakesWithinLimit (held name.now) (F.left files.new)) }
     ensures later { F.read_faults files.old ≤ F.read_faults files.new }
@@ -39,7 +40,7 @@ fn read_rest<F: Files>(alloc: Global, files: &mut F) -> Result<Bytes, Stop>
     requires { IsTrue (F.is_reading files.old) }
     ensures limit { IfOk result (λ bytes. length bytes ≤ file_limit) }
     ensures whole { IfOk result (λ bytes. IfSome (F.left files.old) (λ left. bytes ≡ left)) }
-    ensures refused { IfErr result (λ stop. IfRefused stop (λ refusal. IfSome (F.left files.old) (Refuses refusal))) }
+    ensures refused { IfErr result (λ stop. IfRefused stop (λ refusal. (refusal ≡ TooLarge) × IfSome (F.left files.old) (λ left. file_limit < length left))) }
     ensures read { IsErrOf result Stop.CannotRead → Rose (F.read_faults files.old) (F.read_faults files.new) }
     ensures taken { TakesWithinLimit (F.left files.old) (F.left files.new) }
     ensures later { F.read_faults files.old ≤ F.read_faults files.new }

@@ -1,5 +1,7 @@
-ghost use Rattle.std.specs.Prelude.{◌≡◌, ◌≤◌};
-ghost use Rattle.lower_tool.specs.Statuses.{Prints};
+ghost use Rattle.std.specs.Prelude.{◌≡◌, ◌≤◌, OnOk, OnErr};
+ghost use Rattle.std.specs.Io.KnownBytes.{Appends};
+ghost use Rattle.tool_files.specs.Causes.{HasCause};
+ghost use Rattle.lower_tool.specs.Statuses.{Prints, AppendsFront};
 
 use crate::sink::{Sink, SinkFault};
 
@@ -8,12 +10,14 @@ pub fn print<S: Sink>(text: &[u8], out: &mut S)
     ensures prints { Prints (S.written out.old) (S.written out.new) (S.faults out.old) (S.faults out.new) text.now }
     ensures later { S.faults out.old ≤ S.faults out.new }
 {
-    let _ = give_all(text, out);
+    let _ = print_all(text, out);
 }
 
-fn give_all<S: Sink>(text: &[u8], out: &mut S) -> Result<(), SinkFault>
-    ensures prints { Prints (S.written out.old) (S.written out.new) (S.faults out.old) (S.faults out.new) text.now }
-    ensures later { S.faults out.old ≤ S.faults out.new }
+/// Prints a text, until a fault of the sink cuts it short.
+pub fn print_all<S: Sink>(text: &[u8], out: &mut S) -> Result<(), SinkFault>
+    ensures cause { HasCause (S.faults out.old) (S.faults out.new) result }
+    ensures whole { OnOk result (Appends (S.written out.old) (S.written out.new) text.now) }
+    ensures cut { OnErr result (AppendsFront (S.written out.old) (S.written out.new) text.now) }
 {
     let mut done = 0;
     while done < text.len() {

@@ -4,8 +4,7 @@ ghost use Rattle.lower_tool.specs.declared.tool.stop.Stop.TheVariants.{CannotRea
 
 use super::status;
 use crate::files::FileFault;
-use crate::lowering::LowerFault;
-use crate::verdict::Refusal;
+use crate::verdict::{NotFine, Refusal};
 use arrayvec::ArrayString;
 use std::alloc::AllocError;
 use std::fmt;
@@ -77,13 +76,13 @@ impl From<AllocError> for Stop {
     }
 }
 
-impl From<LowerFault> for Stop {
+impl From<NotFine> for Stop {
     ghost from_gives = { λ fault stop. stop ≡ stop_of fault };
 
-    fn from(fault: LowerFault) -> Stop {
+    fn from(fault: NotFine) -> Stop {
         match fault {
-            LowerFault::Refused(refusal) => Stop::Refused(refusal),
-            LowerFault::Memory(_) => Stop::OutOfMemory,
+            NotFine::Refused(refusal) => Stop::Refused(refusal),
+            NotFine::Memory(_) => Stop::OutOfMemory,
         }
     }
 }

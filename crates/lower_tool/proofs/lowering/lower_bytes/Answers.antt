@@ -1,9 +1,9 @@
-use Rattle.lower_tool.proofs.Refusals.{not_core}
+use Rattle.std.proofs.Common.{ℕ, List, subst}
+use Rattle.std.specs.Prelude.{IfErr}
+use Rattle.lower_tool.specs.Stops.{IfNotFine}
+use Rattle.lower_tool.specs.Verdict.{Refuses3}
 use Rattle.lower_tool.proofs.lowering.lower_bytes.Goals as goal
 
--- the file spells one module alone, and that is not the core module
-pub returns-then-not-branch-clause-refused : goal.returns-then-not-branch-clause-refused
-returns-then-not-branch-clause-refused c =
-    let reads = c.in_ok-source.ensures.tells in
-    let is_core = c.in_ok-is_core_file.ensures in
-    (c.requires, (c.in_ok-source.source, reads), not_core c.args.bytes.now c.in_ok-source.source reads (λ spells. let no : ⊥ = cc (is_core.1 spells, c.if-not-branch.true) in no))
+pub returns-clause-refused : goal.returns-clause-refused
+returns-clause-refused c =
+    subst (λ (b : List ℕ). IfErr c.lower_file.result (λ fault. IfNotFine fault (λ refusal. Refuses3 refusal b))) c.in_ok-file.ensures.1 c.lower_file.ensures.refused

@@ -1,6 +1,6 @@
 use Rattle.std.proofs.Common.{length, ◌-◌, ◌≤◌, take}
 use Rattle.std.specs.Io.KnownBytes.{Appends}
-use Rattle.lower_tool.proofs.tool.print.give_all.Given as goal
+use Rattle.lower_tool.proofs.tool.print.print_all.Given as goal
 
 -- the text as far as it is done stands behind what was written at first
 abbrev pub invariant-loop-done : goal.invariant-loop-done
