@@ -124,7 +124,7 @@ enum Cut {
     BadOrder,
 }
 
-fn cut(alloc: Global, file: &[u8], version: Version) -> Result<Cut, AllocError> {
+fn cutting_of(alloc: Global, file: &[u8], version: Version) -> Result<Cut, AllocError> {
     match sections(alloc, file, version) {
         Ok(found) => Ok(Cut::Sections(found.len())),
         Err(FrameFault::BadHead) => Ok(Cut::BadHead),
@@ -138,7 +138,7 @@ fn cut(alloc: Global, file: &[u8], version: Version) -> Result<Cut, AllocError> 
 fn cut_behind_head(alloc: Global, after_head: &[u8], version: Version) -> Result<Cut, AllocError> {
     let mut file = Bytes::from_slice(alloc, &HEAD)?;
     file.extend_from_slice(after_head)?;
-    cut(alloc, file.as_slice(), version)
+    cutting_of(alloc, file.as_slice(), version)
 }
 
 #[test]
@@ -183,7 +183,7 @@ fn frames(rt: HostRuntime) -> Result<(), Fail> {
     for (after_head, version, answer) in cases {
         assert!(rt; cut_behind_head(rt.alloc(), after_head, version)? == answer);
     }
-    let head = cut(rt.alloc(), b"\0asm\x0d\0\0\0", Version::Three)?;
+    let head = cutting_of(rt.alloc(), b"\0asm\x0d\0\0\0", Version::Three)?;
     assert!(rt; head == Cut::BadHead);
     Ok(())
 }
