@@ -1,7 +1,11 @@
 -- Single instructions by their opcode, and by the number behind the prefixes FC and FD: chapter 5 of the standard,
 -- "Instructions". Those with the same immediates stand together, and what holds code is in `Tokens`.
 use Rattle.std.specs.Prelude.{ℕ, ◌==◌, ◌||◌, Bool, if◌then◌else◌, Option, Some, None, option_map}
+use Rattle.std.specs.Option.{option_or}
 use Rattle.std.specs.Int.{from_le_bytes, w32, w64}
+use Rattle.opcode_table.specs.Operators.{operator_of}
+use Rattle.opcode_table.specs.Accesses.{load_of, store_of}
+use Rattle.opcode_table.specs.Floats.{is_float_access, is_float_operator, between}
 use Rattle.wasm_ast.specs.declared.module.immediates.MemArg.{MemArg}
 use Rattle.wasm_ast.specs.declared.module.immediates.FloatCode.TheVariants as floats
 use Rattle.wasm_ast.specs.declared.module.immediates.FloatImmediates.TheVariants as with
@@ -10,9 +14,10 @@ use Rattle.wasm_ast.specs.declared.module.code.Instr.{Instr}
 use Rattle.wasm_ast.specs.declared.module.code.Instr.TheVariants as instrs
 use Rattle.grammar_kit.specs.Form.{Form, never, always, raw, when, ◌>>=◌, vector}
 use Rattle.wasm_frame.specs.Leb128.{u32, s32, s64}
-use Rattle.code_new.specs.Types.{heap_type, val_type}
-use Rattle.code_new.specs.Immediates.{given, mem_arg}
-use Rattle.code_new.specs.Operators.{operator_of, load_of, store_of, is_float_access, is_float_operator, between}
+use Rattle.code_new.specs.Types.{heap_type, value_type}
+use Rattle.grammar_kit.specs.Choice.{given}
+use Rattle.code_new.specs.Immediates.{mem_arg}
+use Rattle.code_new.specs.Operators.{op_of}
 
 -- ---- without immediates
 
@@ -31,12 +36,8 @@ plain_of b =
 unfoldable pub float_operator : ℕ → Option Instr
 float_operator b = if is_float_operator b then Some (instrs.Float (floats.Plain b) with.None) else None
 
-abbrev pub or_else : Option Instr → Option Instr → Option Instr
-or_else (Some i) other = Some i
-or_else None other = other
-
 unfoldable pub numeric_of : ℕ → Option Instr
-numeric_of b = or_else (option_map instrs.Pure (operator_of b)) (float_operator b)
+numeric_of b = option_or (option_map (λ op. instrs.Pure (op_of op)) (operator_of b)) (float_operator b)
 
 -- ---- an index behind the opcode
 
@@ -107,14 +108,14 @@ br_table = vector u32 u32 >>= λ labels. u32 >>= λ last. always (instrs.BrTable
 
 -- "Parametric Instructions"
 unfoldable pub select_typed : Form Instr
-select_typed = vector u32 val_type >>= λ types. always (instrs.SelectTyped types)
+select_typed = vector u32 value_type >>= λ types. always (instrs.SelectTyped types)
 
 -- ---- "Memory Instructions"
 
 unfoldable pub access_of : ℕ → MemArg → Option Instr
 access_of b at =
-    or_else (option_map (λ op. instrs.Load op at) (load_of b))
-    (or_else (option_map (λ op. instrs.Store op at) (store_of b))
+    option_or (option_map (λ op. instrs.Load op at) (load_of b))
+    (option_or (option_map (λ op. instrs.Store op at) (store_of b))
     (if is_float_access b then Some (instrs.Float (floats.Plain b) (with.Memory at)) else None))
 
 unfoldable pub access : ℕ → Form Instr

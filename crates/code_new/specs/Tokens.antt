@@ -1,23 +1,20 @@
 -- What code is made of, by the first byte: chapter 5 of the standard, "Instructions". An instruction that holds code is its
 -- opcode and immediates here, and the code follows in tokens of its own.
-use Rattle.std.specs.Prelude.{ℕ, ◌==◌, ◌||◌, Bool, true, false, nat_lt, List, Option, Some, None}
+use Rattle.std.specs.Prelude.{ℕ, ◌==◌, ◌&&◌, ◌||◌, if◌then◌else◌, Bool, true, false, nat_lt, nat_le, List, Option, Some, None, option_map}
+use Rattle.wasm_ast.specs.declared.module.ty.BlockType.{BlockType}
 use Rattle.wasm_ast.specs.declared.module.code.Instr.{Instr}
 use Rattle.wasm_ast.specs.declared.module.code.Instr.TheVariants as instrs
 use Rattle.grammar_kit.specs.Form.{Form, always, byte, when, ◌>>=◌, vector}
+use Rattle.grammar_kit.specs.Choice.{given, given_or}
 use Rattle.wasm_frame.specs.Leb128.{u32}
 use Rattle.nested_code.specs.declared.token.Token.{Token}
 use Rattle.nested_code.specs.declared.token.Token.TheVariants.{Plain, Open, Else, End}
 use Rattle.code_new.specs.declared.head.Head.{Head}
 use Rattle.code_new.specs.declared.head.Head.TheVariants.{Block, Loop, If, TryTable}
 use Rattle.code_new.specs.Types.{block_type}
-use Rattle.code_new.specs.Immediates.{given, clause}
+use Rattle.code_new.specs.Immediates.{clause}
 use Rattle.code_new.specs.Instructions.{plain_of, numeric_of, jump_of, variable_of, indexed, indirect_of, twice_indexed, br_table, select_typed, access, size_of, constant, reference, behind_fc}
 use Rattle.code_new.specs.Vectors.{behind_fd}
-
--- no bytes at all spell the value, where there is one, and else the form
-abbrev pub given_or : {X : Type 0} → Option X → Form X → Form X
-given_or (Some x) f = always x
-given_or None f = f
 
 -- an opcode below 20 of an instruction that holds no code
 unfoldable pub control_at : ℕ → Form Instr
@@ -41,16 +38,28 @@ instr_at b =
 abbrev pub plain : Form Instr → Form (Token Instr Head)
 plain f = f >>= λ i. always (Plain i)
 
--- "Control Instructions", those that hold code; a catch clause's labels are as they stand
+-- "Control Instructions": those that hold code
+unfoldable pub head_of : ℕ → BlockType → Option Head
+head_of b t =
+    if b == 0x02 then Some (Block t)
+    else (if b == 0x03 then Some (Loop t)
+    else (if b == 0x04 then Some (If t)
+    else None))
+
+unfoldable pub opened : ℕ → Form (Token Instr Head)
+opened b = block_type >>= λ t. given (option_map Open (head_of b t))
+
+-- a catch clause's labels are as they stand
+unfoldable pub try_table : Form (Token Instr Head)
+try_table = block_type >>= λ t. vector u32 clause >>= λ cs. always (Open (TryTable t cs))
+
+-- an opcode below 20
 unfoldable pub head_at : ℕ → Form (Token Instr Head)
 head_at b =
-    when (b == 0x02) (block_type >>= λ t. always (Open (Block t)))
-    (when (b == 0x03) (block_type >>= λ t. always (Open (Loop t)))
-    (when (b == 0x04) (block_type >>= λ t. always (Open (If t)))
+    when (nat_le 0x02 b && nat_le b 0x04) (opened b)
     (when (b == 0x05) (always Else)
     (when (b == 0x0B) (always End)
-    (when (b == 0x1F) (block_type >>= λ t. vector u32 clause >>= λ cs. always (Open (TryTable t cs)))
-    (plain (control_at b)))))))
+    (when (b == 0x1F) try_table (plain (control_at b)))))
 
 unfoldable pub token_at : ℕ → Form (Token Instr Head)
 token_at b = when (nat_lt b 0x20) (head_at b) (plain (instr_at b))

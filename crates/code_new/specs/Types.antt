@@ -5,7 +5,7 @@ use Rattle.wasm_ast.specs.declared.module.ty.Ty.TheVariants.{I32, I64, F32, F64,
 use Rattle.wasm_ast.specs.declared.module.ty.BlockType.{BlockType}
 use Rattle.wasm_ast.specs.declared.module.ty.BlockType.TheVariants.{Empty, One, Index}
 use Rattle.grammar_kit.specs.Form.{Form, never, always, byte, when, ◌>>=◌}
-use Rattle.wasm_frame.specs.declared.numbers.Sign.TheVariants.{Signed}
+use Rattle.wasm_frame.specs.declared.leb128.Sign.TheVariants.{Signed}
 use Rattle.wasm_frame.specs.Leb128.{integer_after}
 
 -- what a reference refers to, by its byte
@@ -28,8 +28,8 @@ unfoldable pub ref_type : Form Ty
 ref_type = byte >>= ref_type_at
 
 -- a value type whose first byte is b
-unfoldable pub val_type_at : ℕ → Form Ty
-val_type_at b =
+unfoldable pub value_type_at : ℕ → Form Ty
+value_type_at b =
     when (b == 0x7F) (always I32)
     (when (b == 0x7E) (always I64)
     (when (b == 0x7D) (always F32)
@@ -37,8 +37,8 @@ val_type_at b =
     (when (b == 0x7B) (always V128) (ref_type_at b)))))
 
 -- "Value Types"
-unfoldable pub val_type : Form Ty
-val_type = byte >>= val_type_at
+unfoldable pub value_type : Form Ty
+value_type = byte >>= value_type_at
 
 -- an index whose first byte is b: a signed number of 33 bits that is not negative
 unfoldable pub type_index_at : ℕ → Form BlockType
@@ -49,7 +49,7 @@ type_index_at b = integer_after b Signed 33 >>= λ x. when (nat_lt x (2 ^ 32)) (
 unfoldable pub block_type_at : ℕ → Form BlockType
 block_type_at b =
     when (b == 0x40) (always Empty)
-    (when (nat_le 0x40 b && nat_lt b 0x80) (val_type_at b >>= λ t. always (One t)) (type_index_at b))
+    (when (nat_le 0x40 b && nat_lt b 0x80) (value_type_at b >>= λ t. always (One t)) (type_index_at b))
 
 unfoldable pub block_type : Form BlockType
 block_type = byte >>= block_type_at

@@ -13,7 +13,7 @@ use Rattle.grammar_kit.specs.Form.{Form, never, always, byte, raw, when, ◌>>=�
 use Rattle.wasm_frame.specs.Leb128.{u32}
 use Rattle.simd_table.specs.Codes.{name_of}
 use Rattle.code_new.specs.Immediates.{mem_arg}
-use Rattle.code_new.specs.Operators.{between}
+use Rattle.opcode_table.specs.Floats.{between}
 
 -- 16 bytes as a vector, the lowest first
 abbrev pub vector_from : List ℕ → V

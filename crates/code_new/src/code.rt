@@ -89,6 +89,3 @@ pub fn measure_expr(alloc: Global, bytes: &[u8]) -> Result<(ExprSizes, &[u8]), F
         rest,
     ))
 }
-
-#[cfg(test)]
-mod tests;

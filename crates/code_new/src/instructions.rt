@@ -5,7 +5,7 @@ ghost use Rattle.grammar_kit.specs.Gives.{Gives, GivesOption};
 ghost use Rattle.code_new.specs.Instructions.{indexed, twice_indexed, jump_of, variable_of, bulk_of, indirect_of, transfer_of, size_of, br_table, select_typed, access, constant, reference, is_transfer, saturating_or_bulk, behind_fc};
 ghost use Rattle.code_new.specs.Tokens.{control_at, instr_at};
 
-use crate::immediates::{read_array, read_indices, read_val_types, split_mem_arg};
+use crate::immediates::{read_array, read_indices, read_value_types, split_mem_arg};
 use crate::named::{
     access_of, bulk_of, indirect_of, jump_of, numeric_of, plain_of, size_of, transfer_of,
     variable_of,
@@ -15,7 +15,7 @@ use crate::vectors::behind_fd;
 use grammar_kit::FormError;
 use std::alloc::Global;
 use wasm_ast::module::{FloatCode, FloatImmediates, Instr, Op};
-use wasm_frame::numbers::{split_s32, split_s64, split_u32};
+use wasm_frame::leb128::{split_s32, split_s64, split_u32};
 
 /// The call through a table with this opcode, with its two indices at the front.
 fn indirect(opcode: u8, bytes: &[u8]) -> Option<(Instr, &[u8])>
@@ -51,7 +51,7 @@ fn read_br_table(alloc: Global, bytes: &[u8]) -> Result<(Instr, &[u8]), FormErro
 fn read_select(alloc: Global, bytes: &[u8]) -> Result<(Instr, &[u8]), FormError>
     ensures { Gives (λ p. (p.0, p.1.now)) result (select_typed.read bytes.now) }
 {
-    let (types, rest) = read_val_types(alloc, bytes)?;
+    let (types, rest) = read_value_types(alloc, bytes)?;
     Ok((Instr::SelectTyped(types), rest))
 }
 

@@ -1,10 +1,39 @@
 // The instruction of an opcode and its immediates, for those whose immediates are numbers.
 
 ghost use Rattle.std.specs.Prelude.{◌≡◌};
+ghost use Rattle.code_new.specs.Operators.{op_of};
+ghost use Rattle.code_new.specs.Tokens.{head_of};
 ghost use Rattle.code_new.specs.Instructions.{plain_of, float_operator, numeric_of, jump_of, variable_of, bulk_of, indirect_of, transfer_of, access_of, size_of};
 
-use crate::operators::{is_float_access, is_float_operator, load_of, operator_of, store_of};
-use wasm_ast::module::{FloatCode, FloatImmediates, Instr, MemArg};
+use crate::head::Head;
+use opcode_table::{IntOp, is_float_access, is_float_operator, load_of, operator_of, store_of};
+use wasm_ast::module::{BlockType, FloatCode, FloatImmediates, Instr, MemArg, Op};
+
+/// The operator as 3.0 has it.
+fn op_of(op: IntOp) -> Op
+    ensures { result ≡ op_of op }
+{
+    match op {
+        IntOp::Eqz(width) => Op::Eqz(width),
+        IntOp::Compare(width, op) => Op::Compare(width, op),
+        IntOp::Unary(width, op) => Op::Unary(width, op),
+        IntOp::Binary(width, op) => Op::Binary(width, op),
+        IntOp::Convert(op) => Op::Convert(op),
+    }
+}
+
+/// The head of an opcode and a block type, but for try_table ("Control Instructions" of the standard).
+#[tactic(auto, unfolding(crate::specs::Tokens::head_of))]
+pub fn head_of(opcode: u8, ty: BlockType) -> Option<Head>
+    ensures { result ≡ head_of opcode ty }
+{
+    match opcode {
+        0x02 => Some(Head::Block(ty)),
+        0x03 => Some(Head::Loop(ty)),
+        0x04 => Some(Head::If(ty)),
+        _ => None,
+    }
+}
 
 /// The instruction without immediates of an opcode below 20 ("Control Instructions" and "Parametric Instructions" of the
 /// standard).
@@ -42,7 +71,7 @@ pub fn numeric_of(opcode: u8) -> Option<Instr>
     ensures { result ≡ numeric_of opcode }
 {
     match operator_of(opcode) {
-        Some(op) => Some(Instr::Pure(op)),
+        Some(op) => Some(Instr::Pure(op_of(op))),
         None => float_operator(opcode),
     }
 }

@@ -2,11 +2,11 @@
 
 ghost use Rattle.std.specs.Prelude.{◌≡◌, ℕ, List, ◌∷◌};
 ghost use Rattle.grammar_kit.specs.Gives.{GivesOption};
-ghost use Rattle.code_new.specs.Types.{heap_type_at, heap_type, ref_type_at, ref_type, val_type_at, val_type, type_index_at, block_type};
+ghost use Rattle.code_new.specs.Types.{heap_type_at, heap_type, ref_type_at, ref_type, value_type_at, value_type, type_index_at, block_type};
 
 use grammar_kit::read_byte;
 use wasm_ast::module::{BlockType, Ty};
-use wasm_frame::numbers::split_s33;
+use wasm_frame::leb128::split_s33;
 
 /// The type of references with this byte ("Heap Types" of the standard).
 #[tactic(auto, unfolding(crate::specs::Types::heap_type_at))]
@@ -54,9 +54,9 @@ pub fn split_ref_type(bytes: &[u8]) -> Option<(Ty, &[u8])>
 }
 
 /// The value type whose first byte was read.
-#[tactic(auto, unfolding(crate::specs::Types::val_type_at))]
-fn val_type_at(byte: u8, rest: &[u8]) -> Option<(Ty, &[u8])>
-    ensures { GivesOption (λ p. (p.0, p.1.now)) result ((val_type_at byte).read rest.now) }
+#[tactic(auto, unfolding(crate::specs::Types::value_type_at))]
+fn value_type_at(byte: u8, rest: &[u8]) -> Option<(Ty, &[u8])>
+    ensures { GivesOption (λ p. (p.0, p.1.now)) result ((value_type_at byte).read rest.now) }
 {
     match byte {
         0x7F => Some((Ty::I32, rest)),
@@ -70,12 +70,12 @@ fn val_type_at(byte: u8, rest: &[u8]) -> Option<(Ty, &[u8])>
 
 /// The value type at the front, and the bytes after it ("Value Types" of the standard). `None` exactly where none
 /// stands there.
-#[tactic(auto, unfolding(crate::specs::Types::val_type))]
-pub fn split_val_type(bytes: &[u8]) -> Option<(Ty, &[u8])>
-    ensures { GivesOption (λ p. (p.0, p.1.now)) result (val_type.read bytes.now) }
+#[tactic(auto, unfolding(crate::specs::Types::value_type))]
+pub fn split_value_type(bytes: &[u8]) -> Option<(Ty, &[u8])>
+    ensures { GivesOption (λ p. (p.0, p.1.now)) result (value_type.read bytes.now) }
 {
     let (byte, rest) = read_byte(bytes)?;
-    val_type_at(byte, rest)
+    value_type_at(byte, rest)
 }
 
 /// The type index at the front, and the bytes after it.
@@ -102,7 +102,7 @@ pub fn split_block_type(bytes: &[u8]) -> Option<(BlockType, &[u8])>
         return Some((BlockType::Empty, rest));
     }
     if 0x40 <= byte && byte < 0x80 {
-        let (ty, rest) = val_type_at(byte, rest)?;
+        let (ty, rest) = value_type_at(byte, rest)?;
         return Some((BlockType::One(ty), rest));
     }
     split_type_index(bytes)

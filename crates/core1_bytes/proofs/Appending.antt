@@ -3,7 +3,7 @@ use Rattle.std.proofs.Common.{◌≡◌, ℕ, zero, suc, List, [], ◌∷◌, �
 use Rattle.std.proofs.lemmas.List.{append-nil}
 use Rattle.std.specs.Prelude.{Result, Ok, Err, OnOk, Option}
 use Rattle.grammar_kit.specs.Form.{Form, always, ◌>>=◌, many}
-use Rattle.core1_bytes.specs.Choice.{OfEntry}
+use Rattle.grammar_kit.specs.Choice.{given}
 use Rattle.core1_bytes.specs.Appends.{AppendsBy, Appends, Both}
 
 -- a fact on success that follows from another one
@@ -42,9 +42,9 @@ appends_bind f g old middle new x y p q = record {
 pub appends_map : {X Y : Type 0} (f : Form X) (g : X → Y) (old new : List ℕ) (x : X) → Appends f old new x → Appends (f >>= λ x. always (g x)) old new (g x)
 appends_map f g old new x p = appends_to (λ b. f.text b x) (λ b. (f >>= λ x. always (g x)).text b (g x)) old new (λ b h. mapped f g b x h) p
 
--- the entry of a table
-pub entry_chosen : {A : Type 0} (o : Option A) (a : A) (P : A → Type 0) (Q : Type 0) → o ≡ Some a → P a → OfEntry o P Q
-entry_chosen o a P Q e h = rw e h
+-- a form that ends with a value that a table has for the one before
+pub found : {X Y : Type 0} (f : Form X) (g : X → Option Y) (b : List ℕ) (x : X) (y : Y) → g x ≡ Some y → f.text b x → (f >>= λ x. given (g x)).text b y
+found f g b x y e h = (x, b, [], sym (append-nil b), h, rw e (refl, refl))
 
 pub many_more : {X : Type 0} (f : Form X) (n : ℕ) (t u : List ℕ) (xs : List X) (x : X) → (many f n).text t xs → f.text u x → (many f (suc n)).text (t ++ u) (xs ++ x ∷ [])
 many_more f zero t u xs x h k = rw (h.0, h.1) (x, u, [], sym (append-nil u), k, ([], [], [], refl, (refl, refl), (refl, refl)))

@@ -2,24 +2,20 @@
 use Rattle.std.proofs.Common.{◌≡◌, Bool, true, false, ◌||◌, Option, Some, None, ℕ, zero, suc, max, ◌≤◌, ◌<◌, List, [], ◌∷◌, map, length, get_or, refl, ap, sym, ◌∙◌, arith}
 use Rattle.core1_ast.specs.declared.module.ty.BlockType1.{BlockType1}
 use Rattle.std.specs.List.{list_any}
-use Rattle.num_core.specs.declared.operators.Load.{Load}
-use Rattle.num_core.specs.declared.operators.Store.{Store}
-use Rattle.core1_ast.specs.declared.module.op.Op1.{Op1}
 use Rattle.core1_ast.specs.declared.module.immediates.MemArg1.{MemArg1}
-use Rattle.core1_ast.specs.declared.module.immediates.FloatImmediates1.{FloatImmediates1}
 use Rattle.core1_ast.specs.declared.module.code.Instr1.{Instr1, out-Instr1}
-use Rattle.core1_ast.specs.declared.module.code.Instr1.TheVariants as instrs
-use Rattle.grammar_kit.specs.Form.{Form}
+use Rattle.std.specs.Prelude.{IfSome, option_map}
 use Rattle.std.proofs.lemmas.Option.{some_pair_parts}
 use Rattle.grammar_kit.specs.declared.error.FormError.{FormError}
 use Rattle.grammar_kit.specs.declared.error.FormError.TheVariants.{Malformed, Memory}
 use Rattle.grammar_kit.specs.Gives.{Misses}
 use Rattle.nested_code.specs.Sizes.{IsDepth, IsOccurrence, sizes}
-use Rattle.nested_code.proofs.Leaves.{Only, only_rules, IsLeaf}
+use Rattle.nested_code.specs.declared.token.Token.TheVariants.{Open}
+use Rattle.nested_code.proofs.Leaves.{Only, only_always, only_when, only_rules, if_mapped, if_rules, IsLeaf, only_plain}
 use Rattle.core1_bytes.specs.declared.head.Head1.{Head1}
 use Rattle.core1_bytes.specs.declared.head.Head1.TheVariants as heads
-use Rattle.core1_bytes.specs.Choice.{choice}
-use Rattle.core1_bytes.specs.Instructions.{structure, br_table, jump, transfer, variable, other_memory, memory, constant, operator, simple, token, has_arms, build}
+use Rattle.core1_bytes.specs.Instructions.{plain_of, numeric_of, jump_of, variable_of, br_table, indirect, size_of, size, access_of, access, constant, control, instr_at}
+use Rattle.core1_bytes.specs.Tokens.{Token1, head_of, opened, control_at, token, has_arms, build}
 use Rattle.core1_ast.specs.declared.module.code.Instr1.TheOpen.{Instr1-F}
 use Rattle.core1_ast.specs.declared.module.code.Instr1.TheFolds.{map-Instr1, fold-roll-Instr1, fold_out-Instr1}
 use Rattle.core1_ast.specs.declared.module.code.Instr1.TheVariants.{Block, Loop, If, rolls-Block, rolls-Loop, rolls-If}
@@ -59,142 +55,79 @@ abbrev IsFlat : Instr1 → Type 0
 IsFlat i = depth i ≡ 0
 
 -- an instruction whose layer holds no code has depth 0
-flat : (i : Instr1) → deepen (map-Instr1 Instr1 ℕ depth (out-Instr1 i)) ≡ 0 → depth i ≡ 0
-flat i e = fold_out-Instr1 ℕ deepen i ∙ e
+leaf : (i : Instr1) → deepen (map-Instr1 Instr1 ℕ depth (out-Instr1 i)) ≡ 0 → IsFlat i
+leaf i e = fold_out-Instr1 ℕ deepen i ∙ e
 
-leaf_pure : (op : Op1) → depth (instrs.Pure op) ≡ 0
-unfolding out-Instr1 denote.Hole.Carrier.out
-leaf_pure op = flat (instrs.Pure op) refl
+plain_leaf : (k : ℕ) → IfSome (plain_of k) IsFlat
+unfolding plain_of out-Instr1 denote.Hole.Carrier.out
+plain_leaf k = search (if_rules, leaf) depth 24
 
-leaf_unreachable : depth instrs.Unreachable ≡ 0
-unfolding out-Instr1 denote.Hole.Carrier.out
-leaf_unreachable = flat instrs.Unreachable refl
+numeric_leaf : (k : ℕ) → IfSome (numeric_of k) IsFlat
+unfolding numeric_of out-Instr1 denote.Hole.Carrier.out
+numeric_leaf k = search (if_rules, leaf) depth 24
 
-leaf_nop : depth instrs.Nop ≡ 0
-unfolding out-Instr1 denote.Hole.Carrier.out
-leaf_nop = flat instrs.Nop refl
+jump_leaf : (k x : ℕ) → IfSome (jump_of k x) IsFlat
+unfolding jump_of out-Instr1 denote.Hole.Carrier.out
+jump_leaf k x = search (if_rules, leaf) depth 24
 
-leaf_return : depth instrs.Return ≡ 0
-unfolding out-Instr1 denote.Hole.Carrier.out
-leaf_return = flat instrs.Return refl
+variable_leaf : (k x : ℕ) → IfSome (variable_of k x) IsFlat
+unfolding variable_of out-Instr1 denote.Hole.Carrier.out
+variable_leaf k x = search (if_rules, leaf) depth 24
 
-leaf_drop : depth instrs.Drop ≡ 0
-unfolding out-Instr1 denote.Hole.Carrier.out
-leaf_drop = flat instrs.Drop refl
+access_leaf : (k : ℕ) (at : MemArg1) → IfSome (access_of k at) IsFlat
+unfolding access_of out-Instr1 denote.Hole.Carrier.out
+access_leaf k at = search (if_rules, leaf) depth 24
 
-leaf_select : depth instrs.Select ≡ 0
-unfolding out-Instr1 denote.Hole.Carrier.out
-leaf_select = flat instrs.Select refl
+size_leaf : (k : ℕ) → IfSome (size_of k) IsFlat
+unfolding size_of out-Instr1 denote.Hole.Carrier.out
+size_leaf k = search (if_rules, leaf) depth 24
 
-leaf_memorysize : depth instrs.MemorySize ≡ 0
-unfolding out-Instr1 denote.Hole.Carrier.out
-leaf_memorysize = flat instrs.MemorySize refl
+only_br_table : Only br_table IsFlat
+unfolding br_table out-Instr1 denote.Hole.Carrier.out
+only_br_table = search (only_rules, leaf) depth 12
 
-leaf_memorygrow : depth instrs.MemoryGrow ≡ 0
-unfolding out-Instr1 denote.Hole.Carrier.out
-leaf_memorygrow = flat instrs.MemoryGrow refl
+only_indirect : Only indirect IsFlat
+unfolding indirect out-Instr1 denote.Hole.Carrier.out
+only_indirect = search (only_rules, leaf) depth 12
 
-leaf_br : (x : ℕ) → depth (instrs.Br x) ≡ 0
-unfolding out-Instr1 denote.Hole.Carrier.out
-leaf_br x = flat (instrs.Br x) refl
+only_size : (k : ℕ) → Only (size k) IsFlat
+unfolding size
+only_size k = search (only_rules, size_leaf) depth 12
 
-leaf_brif : (x : ℕ) → depth (instrs.BrIf x) ≡ 0
-unfolding out-Instr1 denote.Hole.Carrier.out
-leaf_brif x = flat (instrs.BrIf x) refl
+only_access : (k : ℕ) → Only (access k) IsFlat
+unfolding access
+only_access k = search (only_rules, access_leaf) depth 12
 
-leaf_call : (x : ℕ) → depth (instrs.Call x) ≡ 0
-unfolding out-Instr1 denote.Hole.Carrier.out
-leaf_call x = flat (instrs.Call x) refl
+only_constant : (k : ℕ) → Only (constant k) IsFlat
+unfolding constant out-Instr1 denote.Hole.Carrier.out
+only_constant k = search (only_rules, leaf) depth 16
 
-leaf_callindirect : (x : ℕ) → depth (instrs.CallIndirect x) ≡ 0
-unfolding out-Instr1 denote.Hole.Carrier.out
-leaf_callindirect x = flat (instrs.CallIndirect x) refl
+only_control : (k : ℕ) → Only (control k) IsFlat
+unfolding control
+only_control k = search (only_rules, plain_leaf, jump_leaf, only_br_table, only_indirect) depth 16
 
-leaf_localget : (x : ℕ) → depth (instrs.LocalGet x) ≡ 0
-unfolding out-Instr1 denote.Hole.Carrier.out
-leaf_localget x = flat (instrs.LocalGet x) refl
+only_instr_at : (k : ℕ) → Only (instr_at k) IsFlat
+unfolding instr_at
+only_instr_at k = search (only_rules, variable_leaf, only_access, only_size, only_constant, numeric_leaf) depth 16
 
-leaf_localset : (x : ℕ) → depth (instrs.LocalSet x) ≡ 0
-unfolding out-Instr1 denote.Hole.Carrier.out
-leaf_localset x = flat (instrs.LocalSet x) refl
+-- what opens code is no instruction by itself
+abbrev as_open : Head1 → Token1
+as_open h = Open h
 
-leaf_localtee : (x : ℕ) → depth (instrs.LocalTee x) ≡ 0
-unfolding out-Instr1 denote.Hole.Carrier.out
-leaf_localtee x = flat (instrs.LocalTee x) refl
+opened_leaf : (k : ℕ) (t : BlockType1) → IfSome (option_map as_open (head_of k t)) (IsLeaf IsFlat)
+opened_leaf k t = if_mapped as_open (head_of k t) (IsLeaf IsFlat) (λ h. tt)
 
-leaf_globalget : (x : ℕ) → depth (instrs.GlobalGet x) ≡ 0
-unfolding out-Instr1 denote.Hole.Carrier.out
-leaf_globalget x = flat (instrs.GlobalGet x) refl
+only_opened : (k : ℕ) → Only (opened k) (IsLeaf IsFlat)
+unfolding opened
+only_opened k = search (only_rules, opened_leaf) depth 12
 
-leaf_globalset : (x : ℕ) → depth (instrs.GlobalSet x) ≡ 0
-unfolding out-Instr1 denote.Hole.Carrier.out
-leaf_globalset x = flat (instrs.GlobalSet x) refl
-
-leaf_brtable : (x : List ℕ) (y : ℕ) → depth (instrs.BrTable x y) ≡ 0
-unfolding out-Instr1 denote.Hole.Carrier.out
-leaf_brtable x y = flat (instrs.BrTable x y) refl
-
-leaf_load : (x : Load) (y : MemArg1) → depth (instrs.Load x y) ≡ 0
-unfolding out-Instr1 denote.Hole.Carrier.out
-leaf_load x y = flat (instrs.Load x y) refl
-
-leaf_store : (x : Store) (y : MemArg1) → depth (instrs.Store x y) ≡ 0
-unfolding out-Instr1 denote.Hole.Carrier.out
-leaf_store x y = flat (instrs.Store x y) refl
-
-leaf_float : (x : ℕ) (y : FloatImmediates1) → depth (instrs.Float x y) ≡ 0
-unfolding out-Instr1 denote.Hole.Carrier.out
-leaf_float x y = flat (instrs.Float x y) refl
-
-ruleset leaf_rules = (leaf_pure, leaf_unreachable, leaf_nop, leaf_return, leaf_drop, leaf_select, leaf_memorysize, leaf_memorygrow, leaf_br, leaf_brif, leaf_call, leaf_callindirect, leaf_localget, leaf_localset, leaf_localtee, leaf_globalget, leaf_globalset, leaf_brtable, leaf_load, leaf_store, leaf_float)
-
-pub only_choice : {A X : Type 0} (o : Option A) (f : A → Form X) (g : Form X) (P : X → Type 0) → ((a : A) → Only (f a) P) → Only g P → Only (choice o f g) P
-only_choice (Some a) f g P h k = record { holds = (h a).holds }
-only_choice None f g P h k = record { holds = k.holds }
-
-only_structure : (k : ℕ) → Only (structure k) (IsLeaf IsFlat)
-unfolding structure
-only_structure k = search (only_rules, leaf_rules) depth 16
-
-only_br_table : Only br_table (IsLeaf IsFlat)
-unfolding br_table
-only_br_table = search (only_rules, leaf_rules) depth 12
-
-only_jump : (k : ℕ) → Only (jump k) (IsLeaf IsFlat)
-unfolding jump
-only_jump k = search (only_rules, leaf_rules) depth 16
-
-only_transfer : (k : ℕ) → Only (transfer k) (IsLeaf IsFlat)
-unfolding transfer
-only_transfer k = search (only_rules, only_br_table, only_jump) depth 12
-
-only_variable : (k : ℕ) → Only (variable k) (IsLeaf IsFlat)
-unfolding variable
-only_variable k = search (only_rules, leaf_rules) depth 16
-
-only_other_memory : (k : ℕ) → Only (other_memory k) (IsLeaf IsFlat)
-unfolding other_memory
-only_other_memory k = search (only_rules, leaf_rules) depth 16
-
-only_memory : (k : ℕ) → Only (memory k) (IsLeaf IsFlat)
-unfolding memory
-only_memory k = search (only_rules, leaf_rules, only_choice, only_other_memory) depth 16
-
-only_constant : (k : ℕ) → Only (constant k) (IsLeaf IsFlat)
-unfolding constant
-only_constant k = search (only_rules, leaf_rules) depth 16
-
-only_operator : (k : ℕ) → Only (operator k) (IsLeaf IsFlat)
-unfolding operator
-only_operator k = search (only_rules, leaf_rules, only_choice) depth 12
-
-only_simple : (k : ℕ) → Only (simple k) (IsLeaf IsFlat)
-unfolding simple
-only_simple k = search (only_rules, only_variable, only_memory, only_constant, only_operator) depth 12
+only_control_at : (k : ℕ) → Only (control_at k) (IsLeaf IsFlat)
+unfolding control_at
+only_control_at k = search (only_plain, only_control, only_opened, only_when, only_always) depth 16
 
 only_token : Only token (IsLeaf IsFlat)
 unfolding token
-only_token = search (only_rules, only_structure, only_transfer, only_simple) depth 12
+only_token = search (only_plain, only_instr_at, only_rules, only_control_at) depth 12
 
 -- what the measure of the nesting asks
 pub is_depth : IsDepth token has_arms build depth

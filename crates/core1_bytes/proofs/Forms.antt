@@ -7,18 +7,18 @@ use Rattle.wasm_frame.proofs.Text.{exact_name, exact_byte_vector}
 use Rattle.nested_code.proofs.Exactness as nesting
 use Rattle.core1_bytes.specs.declared.body.LocalGroup1.{LocalGroup1}
 use Rattle.core1_bytes.specs.Types.{value_type, block_type, func_type, limits, table_type, mutability, global_type}
-use Rattle.core1_bytes.specs.Instructions.{structure, br_table, jump, transfer, variable, mem_arg, other_memory, memory, constant, operator, simple, token, has_arms, build}
+use Rattle.core1_bytes.specs.Instructions.{br_table, indirect, size, mem_arg, access, constant, control, instr_at}
+use Rattle.core1_bytes.specs.Tokens.{opened, control_at, token, has_arms, build}
 use Rattle.core1_bytes.specs.Bodies.{expr, local_group, body_with, body}
-use Rattle.core1_bytes.specs.Parts.{import_desc, import, global, export_desc, export, element, segment, type_section, import_section, func_section, table_section, memory_section, global_section, export_section, start_section, element_section, code_section, data_section}
-use Rattle.core1_bytes.proofs.Choices.{exact_choice}
+use Rattle.core1_bytes.specs.Parts.{import_desc, import, global, export_desc, export, element, segment, type_section, import_section, func_section, table_section, memory_section, global_section, export_section, start_section, element_section, data_section}
 
 pub exact_value_type : Exact value_type
 unfolding value_type
-exact_value_type = search (exact_rules, exact_choice) depth 12
+exact_value_type = search (exact_rules) depth 12
 
 pub exact_block_type : Exact block_type
 unfolding block_type
-exact_block_type = search (exact_rules, exact_choice) depth 12
+exact_block_type = search (exact_rules) depth 12
 
 pub exact_func_type : Exact func_type
 unfolding func_type
@@ -40,53 +40,49 @@ pub exact_global_type : Exact global_type
 unfolding global_type
 exact_global_type = search (exact_rules, exact_value_type, exact_mutability) depth 12
 
-exact_structure : (k : ℕ) → Exact (structure k)
-unfolding structure
-exact_structure k = search (exact_rules, exact_block_type) depth 16
-
 exact_br_table : Exact br_table
 unfolding br_table
 exact_br_table = search (exact_rules, exact_u32) depth 12
 
-exact_jump : (k : ℕ) → Exact (jump k)
-unfolding jump
-exact_jump k = search (exact_rules, exact_u32) depth 16
+exact_indirect : Exact indirect
+unfolding indirect
+exact_indirect = search (exact_rules, exact_u32) depth 12
 
-exact_transfer : (k : ℕ) → Exact (transfer k)
-unfolding transfer
-exact_transfer k = search (exact_rules, exact_br_table, exact_jump) depth 12
-
-exact_variable : (k : ℕ) → Exact (variable k)
-unfolding variable
-exact_variable k = search (exact_rules, exact_u32) depth 16
+exact_size : (k : ℕ) → Exact (size k)
+unfolding size
+exact_size k = search exact_rules depth 12
 
 pub exact_mem_arg : Exact mem_arg
 unfolding mem_arg
 exact_mem_arg = search (exact_rules, exact_u32) depth 12
 
-exact_other_memory : (k : ℕ) → Exact (other_memory k)
-unfolding other_memory
-exact_other_memory k = search (exact_rules, exact_mem_arg) depth 16
-
-exact_memory : (k : ℕ) → Exact (memory k)
-unfolding memory
-exact_memory k = search (exact_rules, exact_choice, exact_mem_arg, exact_other_memory) depth 16
+exact_access : (k : ℕ) → Exact (access k)
+unfolding access
+exact_access k = search (exact_rules, exact_mem_arg) depth 12
 
 exact_constant : (k : ℕ) → Exact (constant k)
 unfolding constant
 exact_constant k = search (exact_rules, exact_s32, exact_s64) depth 16
 
-exact_operator : (k : ℕ) → Exact (operator k)
-unfolding operator
-exact_operator k = search (exact_rules, exact_choice) depth 12
+exact_control : (k : ℕ) → Exact (control k)
+unfolding control
+exact_control k = search (exact_rules, exact_u32, exact_br_table, exact_indirect) depth 16
 
-exact_simple : (k : ℕ) → Exact (simple k)
-unfolding simple
-exact_simple k = search (exact_rules, exact_variable, exact_memory, exact_constant, exact_operator) depth 12
+exact_instr_at : (k : ℕ) → Exact (instr_at k)
+unfolding instr_at
+exact_instr_at k = search (exact_rules, exact_u32, exact_access, exact_size, exact_constant) depth 16
+
+exact_opened : (k : ℕ) → Exact (opened k)
+unfolding opened
+exact_opened k = search (exact_rules, exact_block_type) depth 12
+
+exact_control_at : (k : ℕ) → Exact (control_at k)
+unfolding control_at
+exact_control_at k = search (exact_rules, exact_opened, exact_control) depth 16
 
 pub exact_token : Exact token
 unfolding token
-exact_token = search (exact_rules, exact_structure, exact_transfer, exact_simple) depth 12
+exact_token = search (exact_rules, exact_control_at, exact_instr_at) depth 12
 
 -- no token is spelled by no bytes
 pub token_takes : token.read [] ≡ None
@@ -163,9 +159,6 @@ exact_start_section = search (exact_rules, exact_u32) depth 12
 
 pub exact_element_section : Exact element_section
 exact_element_section = exact_vector _ _ exact_u32 exact_element
-
-pub exact_code_section : Exact code_section
-exact_code_section = exact_vector _ _ exact_u32 exact_byte_vector
 
 pub exact_data_section : Exact data_section
 exact_data_section = exact_vector _ _ exact_u32 exact_segment

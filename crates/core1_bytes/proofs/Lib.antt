@@ -1,7 +1,5 @@
-pub mod Choices
 pub mod Forms
 pub mod Modules
-pub mod Places
 pub mod Appending
 pub mod Instructions
 pub mod Typed
@@ -14,6 +12,4 @@ pub mod Typings
 pub mod Files
 pub mod Whole
 pub mod Measured
-pub mod Texts
 pub mod Payloads
-pub mod Complete

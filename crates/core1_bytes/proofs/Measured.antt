@@ -1,5 +1,5 @@
 -- The sizes of a body, from those of its groups of locals and of its code.
-use Rattle.std.proofs.Common.{◌≡◌, ℕ, ◌^◌, true, List, [], ◌∷◌, Option, Some, None, refl, ap}
+use Rattle.std.proofs.Common.{◌≡◌, ℕ, ◌^◌, true, false, List, [], ◌∷◌, Option, Some, None, refl, ap}
 use Rattle.std.specs.Prelude.{option_and_then, option_map, nat_lt}
 use Rattle.std.proofs.lemmas.Option.{some_pair_parts}
 use Rattle.core1_ast.specs.declared.module.code.Instr1.{Instr1}
@@ -13,7 +13,7 @@ use Rattle.core1_bytes.specs.Bodies.{expr, locals_count, locals_of, body_with, s
 
 module _ (nesting : ℕ) where
   of_code : (groups : List LocalGroup1) (t : ℕ) (o : Option (List Instr1 × List ℕ)) → locals_count groups ≡ t → through (greatest depth) o ≡ Some (nesting, [])
-      → option_map sizes_of (whole (option_and_then (λ p. Some (record { locals = locals_of groups; code = p.0 }, p.1)) o)) ≡ Some (t, nesting)
+      → option_map sizes_of (whole (option_and_then (λ p. Some (record { locals = locals_of groups; code = p.0 }, p.1)) o)) ≡ Some (t, nesting, false)
   of_code groups t None same h = absurd cc
   of_code groups t (Some (code, [])) same h =
       let parts = (some_pair_parts (greatest depth code) nesting [] [] h).0 in
@@ -22,7 +22,7 @@ module _ (nesting : ℕ) where
 
   pub of_body : (o : Option (List LocalGroup1 × List ℕ)) (g t : ℕ) (rest : List ℕ) → through (extent (λ (x : LocalGroup1). x.count)) o ≡ Some ((g, t), rest) → nat_lt t (2 ^ 32) ≡ true
       → through (greatest depth) (expr.read rest) ≡ Some (nesting, [])
-      → option_map sizes_of (whole (option_and_then (λ p. (when (nat_lt (locals_count p.0) (2 ^ 32)) (body_with p.0) never).read p.1) o)) ≡ Some (t, nesting)
+      → option_map sizes_of (whole (option_and_then (λ p. (when (nat_lt (locals_count p.0) (2 ^ 32)) (body_with p.0) never).read p.1) o)) ≡ Some (t, nesting, false)
   unfolding body_with
   of_body None g t rest h few code = absurd cc
   of_body (Some (groups, after)) g t rest h few code =

@@ -1,5 +1,5 @@
--- One byte string spells one module at most.
-use Rattle.std.proofs.Common.{◌≡◌, ℕ, List, [], Option, None, refl, sym, subst}
+-- Modules by their parts.
+use Rattle.std.proofs.Common.{◌≡◌, ℕ, List, [], Option, None, refl}
 use Rattle.core1_ast.specs.declared.module.parts.Module1.{Module1}
 use Rattle.core1_ast.specs.declared.module.parts.Import1.{Import1}
 use Rattle.core1_ast.specs.declared.module.parts.Global1.{Global1}
@@ -9,15 +9,12 @@ use Rattle.core1_ast.specs.declared.module.parts.Segment1.{Segment1}
 use Rattle.core1_ast.specs.declared.module.ty.FuncType1.{FuncType1}
 use Rattle.core1_ast.specs.declared.module.ty.Limits1.{Limits1}
 use Rattle.core1_ast.specs.declared.module.code.Body1.{Body1}
-use Rattle.wasm_frame.specs.declared.sections.Version.TheVariants.{One}
-use Rattle.wasm_frame.specs.Frame.{Whole}
-use Rattle.wasm_frame.proofs.Frames.{one_frame}
-use Rattle.core1_bytes.specs.Parts.{type_section, import_section, func_section, table_section, memory_section, global_section, export_section, start_section, element_section, code_section, data_section}
-use Rattle.wasm_frame.specs.Payloads.{Each}
-use Rattle.wasm_frame.proofs.Contents.{one_content, each_one}
-use Rattle.core1_bytes.specs.Bodies.{body}
-use Rattle.core1_bytes.specs.Spells.{Grammar1}
-use Rattle.core1_bytes.proofs.Forms.{exact_type_section, exact_import_section, exact_func_section, exact_table_section, exact_memory_section, exact_global_section, exact_export_section, exact_start_section, exact_element_section, exact_code_section, exact_data_section, exact_body}
+use Rattle.wasm_frame.specs.Frame.{Part}
+use Rattle.wasm_frame.proofs.Contents.{one_content}
+use Rattle.core1_bytes.specs.declared.reading.one.Declared1.{Declared1}
+use Rattle.core1_bytes.specs.Parts.{type_section, import_section, func_section, table_section, memory_section, global_section, export_section, start_section, element_section, data_section}
+use Rattle.core1_bytes.specs.Spells.{Contents1}
+use Rattle.core1_bytes.proofs.Forms.{exact_type_section, exact_import_section, exact_func_section, exact_table_section, exact_memory_section, exact_global_section, exact_export_section, exact_start_section, exact_element_section, exact_data_section}
 
 -- a module by its parts
 made : List FuncType1 → List Import1 → List ℕ → List Limits1 → List Limits1 → List Global1 → List Export1 → Option ℕ → List Element1 → List Body1 → List Segment1 → Module1
@@ -44,19 +41,28 @@ pub same_parts : (m o : Module1) → m.types ≡ o.types → m.imports ≡ o.imp
 same_parts m o types imports funcs tables memories globals exports start elems codes datas =
     cc (whole m, whole o, types, imports, funcs, tables, memories, globals, exports, start, elems, codes, datas)
 
-pub one_module : (b : List ℕ) (m o : Module1) → Grammar1 b m → Grammar1 b o → m ≡ o
-one_module b m o h k =
-    let parts = (one_frame One b h.parts k.parts Whole Whole h.frame k.frame).0 in
-    let types = one_content type_section exact_type_section [] 1 h.parts k.parts m.types o.types parts h.types k.types in
-    let imports = one_content import_section exact_import_section [] 2 h.parts k.parts m.imports o.imports parts h.imports k.imports in
-    let funcs = one_content func_section exact_func_section [] 3 h.parts k.parts m.funcs o.funcs parts h.funcs k.funcs in
-    let tables = one_content table_section exact_table_section [] 4 h.parts k.parts m.tables o.tables parts h.tables k.tables in
-    let memories = one_content memory_section exact_memory_section [] 5 h.parts k.parts m.memories o.memories parts h.memories k.memories in
-    let globals = one_content global_section exact_global_section [] 6 h.parts k.parts m.globals o.globals parts h.globals k.globals in
-    let exports = one_content export_section exact_export_section [] 7 h.parts k.parts m.exports o.exports parts h.exports k.exports in
-    let start = one_content start_section exact_start_section None 8 h.parts k.parts m.start o.start parts h.start k.start in
-    let elems = one_content element_section exact_element_section [] 9 h.parts k.parts m.elems o.elems parts h.elems k.elems in
-    let texts = one_content code_section exact_code_section [] 10 h.parts k.parts h.texts k.texts parts h.cut k.cut in
-    let codes = each_one body exact_body h.texts m.codes o.codes h.codes (subst (λ (ts : List (List ℕ)). Each body.text ts o.codes) (sym texts) k.codes) in
-    let datas = one_content data_section exact_data_section [] 11 h.parts k.parts m.datas o.datas parts h.datas k.datas in
-    cc (whole m, whole o, types, imports, funcs, tables, memories, globals, exports, start, elems, codes, datas)
+-- modules with the same contents and the same bodies
+pub one_contents : (parts : List Part) (m o : Module1) → Contents1 parts m → Contents1 parts o → m.codes ≡ o.codes → m ≡ o
+one_contents parts m o h k codes =
+    let types = one_content type_section exact_type_section [] 1 parts parts m.types o.types refl h.types k.types in
+    let imports = one_content import_section exact_import_section [] 2 parts parts m.imports o.imports refl h.imports k.imports in
+    let funcs = one_content func_section exact_func_section [] 3 parts parts m.funcs o.funcs refl h.funcs k.funcs in
+    let tables = one_content table_section exact_table_section [] 4 parts parts m.tables o.tables refl h.tables k.tables in
+    let memories = one_content memory_section exact_memory_section [] 5 parts parts m.memories o.memories refl h.memories k.memories in
+    let globals = one_content global_section exact_global_section [] 6 parts parts m.globals o.globals refl h.globals k.globals in
+    let exports = one_content export_section exact_export_section [] 7 parts parts m.exports o.exports refl h.exports k.exports in
+    let start = one_content start_section exact_start_section None 8 parts parts m.start o.start refl h.start k.start in
+    let elems = one_content element_section exact_element_section [] 9 parts parts m.elems o.elems refl h.elems k.elems in
+    let datas = one_content data_section exact_data_section [] 11 parts parts m.datas o.datas refl h.datas k.datas in
+    same_parts m o types imports funcs tables memories globals exports start elems codes datas
+
+-- what modules declare, by its parts
+declares : List FuncType1 → List Import1 → List ℕ → List Limits1 → List Limits1 → Declared1
+declares types imports funcs tables memories = record { types = types; imports = imports; funcs = funcs; tables = tables; memories = memories }
+
+declared_whole : (d : Declared1) → d ≡ declares d.types d.imports d.funcs d.tables d.memories
+unfolding declares
+declared_whole d = refl
+
+pub same_declared : (d e : Declared1) → d.types ≡ e.types → d.imports ≡ e.imports → d.funcs ≡ e.funcs → d.tables ≡ e.tables → d.memories ≡ e.memories → d ≡ e
+same_declared d e types imports funcs tables memories = cc (declared_whole d, declared_whole e, types, imports, funcs, tables, memories)

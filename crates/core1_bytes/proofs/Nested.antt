@@ -1,7 +1,8 @@
 -- What the writers of code append nests as code does, and types are spelled by their forms.
-use Rattle.std.proofs.Common.{◌≡◌, ℕ, true, List, [], ◌∷◌, ◌++◌, refl, ap, ◌∙◌, append_assoc}
+use Rattle.std.proofs.Common.{◌≡◌, ℕ, true, Some, inl, inr, sym, List, [], ◌∷◌, ◌++◌, refl, ap, ◌∙◌, append_assoc}
+use Rattle.std.proofs.lemmas.Bool.Decides.{eqb_tells}
+use Rattle.std.proofs.lemmas.Option.{none-some}
 use Rattle.core1_ast.specs.declared.module.ty.Ty1.{Ty1}
-use Rattle.core1_ast.specs.declared.module.ty.Ty1.TheVariants as types
 use Rattle.core1_ast.specs.declared.module.ty.BlockType1.TheVariants as blocks
 use Rattle.core1_ast.specs.declared.module.code.Instr1.{Instr1}
 use Rattle.grammar_kit.specs.Form.{byte}
@@ -11,15 +12,11 @@ use Rattle.nested_code.specs.Nesting as nesting
 use Rattle.nested_code.specs.Nesting.{expr as nested_expr}
 use Rattle.nested_code.proofs.Appending.{tokens_append, tokens_one, flats_append, flats_one}
 use Rattle.core1_bytes.specs.declared.head.Head1.{Head1}
-use Rattle.core1_bytes.specs.declared.head.Head1.TheVariants as heads
 use Rattle.core1_bytes.specs.Types.{type_of, value_type, block_type}
-use Rattle.core1_bytes.specs.Opcodes.{type_byte, IsPlain, opcode, head_code, block_type_of}
-use Rattle.core1_bytes.specs.Instructions.{structure, token, has_arms, build}
+use Rattle.core1_bytes.specs.Tokens.{control_at, token, has_arms, build}
 use Rattle.core1_bytes.specs.Bodies.{expr}
-use Rattle.core1_bytes.specs.Appends.{AppendsBy, Appends, Immediates, Spelling, AppendsInstr, AppendsCode}
-use Rattle.core1_bytes.proofs.Appending.{appends_to, appends_nothing, mapped, entry_chosen}
-use Rattle.core1_bytes.proofs.Places.{type_at}
-use Rattle.core1_bytes.proofs.Instructions.{plain_text}
+use Rattle.core1_bytes.specs.Appends.{AppendsBy, Appends, Immediates, Begins, Opens, block_type_of, Spelling, AppendsInstr, AppendsCode}
+use Rattle.core1_bytes.proofs.Appending.{appends_to, appends_nothing, found}
 
 two_bytes : (a b c p q : List ℕ) → b ≡ a ++ p → c ≡ b ++ q → c ≡ a ++ (p ++ q)
 two_bytes a b c p q e f = f ∙ ap (λ (u : List ℕ). u ++ q) e ∙ append_assoc a p q
@@ -39,22 +36,20 @@ coded P Q k old middle new f p q = record {
 pub coded_alone : (Q : List ℕ → Type 0) (k : ℕ) (old new : List ℕ) → Q (k ∷ []) → Appends byte old new k → AppendsBy Q old new
 coded_alone Q k old new h p = record { bytes = k ∷ []; appended = p.appended ∙ ap (λ (u : List ℕ). old ++ u) p.spells; spells = h }
 
-type_text : (t : Ty1) → value_type.text (type_byte t ∷ []) t
+pub type_appends : (old new : List ℕ) (t : Ty1) (k : ℕ) → type_of k ≡ Some t → Appends byte old new k → Appends value_type old new t
 unfolding value_type
-type_text t = (type_byte t, type_byte t ∷ [], [], refl, refl, entry_chosen (type_of (type_byte t)) t _ _ (type_at t) (refl, refl))
+type_appends old new t k e p = coded_alone (λ b. value_type.text b t) k old new (found byte type_of (k ∷ []) k t e refl) p
 
-pub type_appends : (old new : List ℕ) (t : Ty1) → Appends byte old new (type_byte t) → Appends value_type old new t
-type_appends old new t p = coded_alone (λ b. value_type.text b t) (type_byte t) old new (type_text t) p
-
-one_text : (t : Ty1) → block_type.text (type_byte t ∷ []) (blocks.One t)
+-- the byte of a value type is not that of no result
+one_text : (t : Ty1) (k : ℕ) → type_of k ≡ Some t → block_type.text (k ∷ []) (blocks.One t)
 unfolding block_type
-one_text types.I32 = (0x7F, 0x7F ∷ [], [], refl, refl, (refl, refl))
-one_text types.I64 = (0x7E, 0x7E ∷ [], [], refl, refl, (refl, refl))
-one_text types.F32 = (0x7D, 0x7D ∷ [], [], refl, refl, (refl, refl))
-one_text types.F64 = (0x7C, 0x7C ∷ [], [], refl, refl, (refl, refl))
+one_text t k e = elim (eqb_tells k 0x40) [
+  | inl same ↦ absurd (none-some t (sym (ap type_of same.1) ∙ e))
+  | inr other ↦ (k, k ∷ [], [], refl, refl, rw (other.0, e) (refl, refl))
+]
 
-pub one_appends : (old new : List ℕ) (t : Ty1) → Appends byte old new (type_byte t) → Appends block_type old new (blocks.One t)
-one_appends old new t p = coded_alone (λ b. block_type.text b (blocks.One t)) (type_byte t) old new (one_text t) p
+pub one_appends : (old new : List ℕ) (t : Ty1) (k : ℕ) → type_of k ≡ Some t → Appends byte old new k → Appends block_type old new (blocks.One t)
+one_appends old new t k e p = coded_alone (λ b. block_type.text b (blocks.One t)) k old new (one_text t k e) p
 
 empty_text : block_type.text (0x40 ∷ []) blocks.Empty
 unfolding block_type
@@ -63,24 +58,18 @@ empty_text = (0x40, 0x40 ∷ [], [], refl, refl, (refl, refl))
 pub empty_appends : (old new : List ℕ) → Appends byte old new 0x40 → Appends block_type old new blocks.Empty
 empty_appends old new p = coded_alone (λ b. block_type.text b blocks.Empty) 0x40 old new empty_text p
 
-head_text : (h : Head1) (b : List ℕ) → block_type.text b (block_type_of h) → token.text (head_code h ∷ b) (Open h)
-unfolding token structure
-head_text (heads.Block t) b h = (0x02, 0x02 ∷ [], b, refl, refl, mapped block_type (λ t. Open (heads.Block t)) b t h)
-head_text (heads.Loop t) b h = (0x03, 0x03 ∷ [], b, refl, refl, mapped block_type (λ t. Open (heads.Loop t)) b t h)
-head_text (heads.If t) b h = (0x04, 0x04 ∷ [], b, refl, refl, mapped block_type (λ t. Open (heads.If t)) b t h)
+pub head_appends : (old middle new : List ℕ) (h : Head1) (k : ℕ) → Opens h k → Appends byte old middle k → Appends block_type middle new (block_type_of h) → Appends token old new (Open h)
+head_appends old middle new h k opens p q = coded (λ b. block_type.text b (block_type_of h)) (λ b. token.text b (Open h)) k old middle new opens.spells p q
 
-pub head_appends : (old middle new : List ℕ) (h : Head1) → Appends byte old middle (head_code h) → Appends block_type middle new (block_type_of h) → Appends token old new (Open h)
-head_appends old middle new h p q = coded (λ b. block_type.text b (block_type_of h)) (λ b. token.text b (Open h)) (head_code h) old middle new (head_text h) p q
-
-pub plain_appends : (old middle new : List ℕ) (i : Instr1) → IsPlain i → Appends byte old middle (opcode i) → AppendsBy (Immediates i) middle new → Appends token old new (Plain i)
-plain_appends old middle new i is p q = coded (Immediates i) (λ b. token.text b (Plain i)) (opcode i) old middle new (λ b h. plain_text i b is h) p q
+pub plain_appends : (old middle new : List ℕ) (i : Instr1) (k : ℕ) → Begins i k → Appends byte old middle k → AppendsBy (Immediates i) middle new → Appends token old new (Plain i)
+plain_appends old middle new i k begins p q = coded (Immediates i) (λ b. token.text b (Plain i)) k old middle new begins.spells p q
 
 else_text : token.text (0x05 ∷ []) Else
-unfolding token structure
+unfolding token control_at
 else_text = (0x05, 0x05 ∷ [], [], refl, refl, (refl, refl))
 
 end_text : token.text (0x0B ∷ []) End
-unfolding token structure
+unfolding token control_at
 end_text = (0x0B, 0x0B ∷ [], [], refl, refl, (refl, refl))
 
 -- an instruction that holds no code is one token

@@ -1,41 +1,12 @@
 -- What the writers of sections append is a module.
-use Rattle.std.proofs.Common.{◌≡◌, ℕ, suc, length, List, [], ◌∷◌, ◌++◌, Some, None, refl, sym, ap, subst, ◌∙◌, append_assoc}
+use Rattle.std.proofs.Common.{◌≡◌, ℕ, List, [], ◌∷◌, Some, None, refl, sym, subst}
 use Rattle.std.proofs.lemmas.List.{append-nil}
-use Rattle.core1_ast.specs.declared.module.code.Body1.{Body1}
-use Rattle.grammar_kit.specs.Form.{byte, many}
+use Rattle.grammar_kit.specs.Form.{byte}
 use Rattle.wasm_frame.specs.Frame.{section}
-use Rattle.wasm_frame.specs.Leb128.{u32}
 use Rattle.wasm_frame.specs.Name.{byte_vector}
-use Rattle.wasm_frame.specs.Payloads.{Each}
-use Rattle.core1_bytes.specs.Bodies.{body}
-use Rattle.core1_bytes.specs.Parts.{code_section}
-use Rattle.core1_bytes.specs.Appends.{AppendsBy, Appends, Texts, Bodies, AppendsSection}
-use Rattle.core1_bytes.proofs.Appending.{many_more, appends_nothing}
+use Rattle.core1_bytes.specs.Appends.{AppendsBy, Appends, AppendsSection}
+use Rattle.core1_bytes.proofs.Appending.{appends_nothing}
 use Rattle.core1_bytes.proofs.Nested.{coded}
-
-each_more : {X Y : Type 0} (R : X → Y → Type 0) (xs : List X) (ys : List Y) (x : X) (y : Y) → Each R xs ys → R x y → Each R (xs ++ x ∷ []) (ys ++ y ∷ [])
-each_more R [] [] x y h k = (k, tt)
-each_more R [] (b ∷ ys) x y h k = absurd h
-each_more R (a ∷ xs) [] x y h k = absurd h
-each_more R (a ∷ xs) (b ∷ ys) x y h k = (h.0, each_more R xs ys x y h.1 k)
-
-more_length : {X : Type 0} (xs : List X) (x : X) → length (xs ++ x ∷ []) ≡ suc (length xs)
-more_length [] x = refl
-more_length (a ∷ xs) x = ap suc (more_length xs x)
-
--- one text more, behind the count of its bytes
-pub texts_more : (a b c : List ℕ) (bodies : List Body1) (source : Body1) (text : List ℕ) → AppendsBy (λ t. Texts t bodies) a b → body.text text source → Appends byte_vector b c text → AppendsBy (λ t. Texts t (bodies ++ source ∷ [])) a c
-texts_more a b c bodies source text p h q =
-    let s = p.spells in
-    record {
-      bytes = p.bytes ++ q.bytes;
-      appended = q.appended ∙ ap (λ (u : List ℕ). u ++ q.bytes) p.appended ∙ append_assoc a p.bytes q.bytes;
-      spells = record {
-        texts = s.texts ++ text ∷ [];
-        cut = subst (λ n. (many byte_vector n).text (p.bytes ++ q.bytes) (s.texts ++ text ∷ [])) (sym (more_length bodies source)) (many_more byte_vector (length bodies) p.bytes q.bytes s.texts text s.cut q.spells);
-        each = each_more body.text s.texts bodies text source s.each h;
-      };
-    }
 
 -- an id and a vector of bytes are a section
 section_text : (id : ℕ) (payload b : List ℕ) → byte_vector.text b payload → section.text (id ∷ b) (record { id = id; payload = payload })
@@ -56,8 +27,3 @@ section_present id P Q a b payload h p = record { payload = Some payload; whole 
 -- what was written by itself is the payload
 pub alone : (P : List ℕ → Type 0) (b : List ℕ) → AppendsBy P [] b → P b
 alone P b p = subst P (sym p.appended) p.spells
-
-pub bodies_payload : (a b : List ℕ) (bodies : List Body1) → Appends u32 [] a (length bodies) → AppendsBy (λ t. Texts t bodies) a b → Bodies b bodies
-bodies_payload a b bodies p q =
-    let s = q.spells in
-    (s.texts, subst (λ (t : List ℕ). code_section.text t s.texts) (sym (q.appended ∙ ap (λ (t : List ℕ). t ++ q.bytes) p.appended)) (length bodies, p.bytes, q.bytes, refl, p.spells, s.cut), s.each)

@@ -6,11 +6,15 @@ use Rattle.core1_ast.specs.declared.module.code.Body1.{Body1}
 use Rattle.core1_ast.specs.declared.module.parts.Module1.{Module1}
 use Rattle.grammar_kit.specs.Form.{Form}
 use Rattle.wasm_frame.specs.Frame.{head}
+use Rattle.wasm_frame.specs.Leb128.{u32}
 use Rattle.wasm_frame.specs.Payloads.{Content, Each}
-use Rattle.core1_bytes.specs.Parts.{type_section, import_section, func_section, table_section, memory_section, global_section, export_section, start_section, element_section, code_section, data_section}
+use Rattle.wasm_frame.proofs.SizedItems.{vector_cut}
+use Rattle.core1_bytes.specs.Parts.{type_section, import_section, func_section, table_section, memory_section, global_section, export_section, start_section, element_section, data_section}
 use Rattle.core1_bytes.specs.Bodies.{body}
-use Rattle.core1_bytes.specs.Spells.{IsPart1, Spells1}
-use Rattle.core1_bytes.specs.Appends.{AppendsSection, Bodies}
+use Rattle.module_reading.specs.Spells.{code_section, IsPart}
+use Rattle.core1_bytes.specs.Spells.{one, Spells1}
+use Rattle.core1_bytes.specs.Made.{body_section}
+use Rattle.core1_bytes.specs.Appends.{AppendsSection}
 use Rattle.core1_bytes.proofs.Files.{Piece, present, Ascends, Cut, find, sections_of, payload_found, each_present}
 
 -- the section of an id with these entries, there or left out
@@ -46,9 +50,9 @@ record Split (o : Option (List ℕ)) (codes : List Body1) : Type 0 where
   cut : MatchOption o (texts ≡ []) (λ p. code_section.text p texts)
   each : Each body.text texts codes
 
-split : (o : Option (List ℕ)) (codes : List Body1) → MatchOption o (codes ≡ []) (λ p. Bodies p codes) → Split o codes
+split : (o : Option (List ℕ)) (codes : List Body1) → MatchOption o (codes ≡ []) (λ p. body_section.text p codes) → Split o codes
 split None codes h = record { texts = []; cut = refl; each = subst (λ cs. Each body.text [] cs) (sym h) tt }
-split (Some p) codes h = record { texts = h.0; cut = h.1; each = h.2 }
+split (Some p) codes h = let texts = vector_cut u32 body p codes h in record { texts = texts.0; cut = texts.1; each = texts.2 }
 
 pub module_spelled : (a b1 b2 b3 b4 b5 b6 b7 b8 b9 b10 out : List ℕ) (m : Module1) → a ≡ head
     → Entries 1 type_section [] m.types a b1
@@ -60,7 +64,7 @@ pub module_spelled : (a b1 b2 b3 b4 b5 b6 b7 b8 b9 b10 out : List ℕ) (m : Modu
     → Entries 7 export_section [] m.exports b6 b7
     → Entries 8 start_section None m.start b7 b8
     → Entries 9 element_section [] m.elems b8 b9
-    → AppendsSection 10 (m.codes ≡ []) (λ p. Bodies p m.codes) b9 b10
+    → Entries 10 body_section [] m.codes b9 b10
     → Entries 11 data_section [] m.datas b10 out
     → length m.funcs ≡ length m.codes → Spells1 out m
 module_spelled a b1 b2 b3 b4 b5 b6 b7 b8 b9 b10 out m start s1 s2 s3 s4 s5 s6 s7 s8 s9 s10 s11 counts =
@@ -82,17 +86,19 @@ module_spelled a b1 b2 b3 b4 b5 b6 b7 b8 b9 b10 out m start s1 s2 s3 s4 s5 s6 s7
       grammar = record {
         parts = present plan;
         frame = (t1.rest, t1.whole ∙ ap (λ (u : List ℕ). u ++ t1.rest) start, sections_of 0 plan t1.rest asc t1.cut);
-        within = each_present IsPart1 plan (spelled_if s1.payload _ _ _ (λ p h. (m.types, h)) s1.content, (spelled_if s2.payload _ _ _ (λ p h. (m.imports, h)) s2.content, (spelled_if s3.payload _ _ _ (λ p h. (m.funcs, h)) s3.content, (spelled_if s4.payload _ _ _ (λ p h. (m.tables, h)) s4.content, (spelled_if s5.payload _ _ _ (λ p h. (m.memories, h)) s5.content, (spelled_if s6.payload _ _ _ (λ p h. (m.globals, h)) s6.content, (spelled_if s7.payload _ _ _ (λ p h. (m.exports, h)) s7.content, (spelled_if s8.payload _ _ _ (λ p h. (m.start, h)) s8.content, (spelled_if s9.payload _ _ _ (λ p h. (m.elems, h)) s9.content, (spelled_if s10.payload _ _ _ (λ p h. (h.0, h.1)) s10.content, (spelled_if s11.payload _ _ _ (λ p h. (m.datas, h)) s11.content, tt)))))))))));
-        types = content 1 type_section [] m.types plan s1.payload asc refl s1.content;
-        imports = content 2 import_section [] m.imports plan s2.payload asc refl s2.content;
-        funcs = content 3 func_section [] m.funcs plan s3.payload asc refl s3.content;
-        tables = content 4 table_section [] m.tables plan s4.payload asc refl s4.content;
-        memories = content 5 memory_section [] m.memories plan s5.payload asc refl s5.content;
-        globals = content 6 global_section [] m.globals plan s6.payload asc refl s6.content;
-        exports = content 7 export_section [] m.exports plan s7.payload asc refl s7.content;
-        start = content 8 start_section None m.start plan s8.payload asc refl s8.content;
-        elems = content 9 element_section [] m.elems plan s9.payload asc refl s9.content;
-        datas = content 11 data_section [] m.datas plan s11.payload asc refl s11.content;
+        within = each_present (IsPart one) plan (spelled_if s1.payload _ _ _ (λ p h. (m.types, h)) s1.content, (spelled_if s2.payload _ _ _ (λ p h. (m.imports, h)) s2.content, (spelled_if s3.payload _ _ _ (λ p h. (m.funcs, h)) s3.content, (spelled_if s4.payload _ _ _ (λ p h. (m.tables, h)) s4.content, (spelled_if s5.payload _ _ _ (λ p h. (m.memories, h)) s5.content, (spelled_if s6.payload _ _ _ (λ p h. (m.globals, h)) s6.content, (spelled_if s7.payload _ _ _ (λ p h. (m.exports, h)) s7.content, (spelled_if s8.payload _ _ _ (λ p h. (m.start, h)) s8.content, (spelled_if s9.payload _ _ _ (λ p h. (m.elems, h)) s9.content, (spelled_if s10.payload _ _ _ (λ p h. (bodies.texts, h)) bodies.cut, (spelled_if s11.payload _ _ _ (λ p h. (m.datas, h)) s11.content, tt)))))))))));
+        contents = record {
+          types = content 1 type_section [] m.types plan s1.payload asc refl s1.content;
+          imports = content 2 import_section [] m.imports plan s2.payload asc refl s2.content;
+          funcs = content 3 func_section [] m.funcs plan s3.payload asc refl s3.content;
+          tables = content 4 table_section [] m.tables plan s4.payload asc refl s4.content;
+          memories = content 5 memory_section [] m.memories plan s5.payload asc refl s5.content;
+          globals = content 6 global_section [] m.globals plan s6.payload asc refl s6.content;
+          exports = content 7 export_section [] m.exports plan s7.payload asc refl s7.content;
+          start = content 8 start_section None m.start plan s8.payload asc refl s8.content;
+          elems = content 9 element_section [] m.elems plan s9.payload asc refl s9.content;
+          datas = content 11 data_section [] m.datas plan s11.payload asc refl s11.content;
+        };
         texts = bodies.texts;
         cut = content 10 code_section [] bodies.texts plan s10.payload asc refl bodies.cut;
         codes = bodies.each;

@@ -10,18 +10,19 @@ use Rattle.core1_ast.specs.declared.module.parts.Global1.{Global1}
 use Rattle.core1_ast.specs.declared.module.parts.Export1.{Export1}
 use Rattle.core1_ast.specs.declared.module.parts.ExportDesc1.{ExportDesc1}
 use Rattle.core1_ast.specs.declared.module.parts.ExportDesc1.TheVariants as exports
+use Rattle.core1_ast.specs.declared.module.code.Body1.{Body1}
 use Rattle.core1_ast.specs.declared.module.parts.Element1.{Element1}
 use Rattle.core1_ast.specs.declared.module.parts.Segment1.{Segment1}
 use Rattle.grammar_kit.specs.Form.{Form, always, byte, raw, ◌>>=◌, vector}
+use Rattle.grammar_kit.specs.Sequences.{sized}
 use Rattle.wasm_frame.specs.Name.{name, byte_vector}
 use Rattle.core1_bytes.specs.declared.body.LocalGroup1.{LocalGroup1}
 use Rattle.wasm_frame.specs.Leb128.{u32}
 use Rattle.core1_bytes.specs.Types.{value_type, func_type, limits, table_type, mutability, global_type}
-use Rattle.core1_bytes.specs.Opcodes.{export_kind, export_index}
-use Rattle.core1_bytes.specs.Bodies.{expr, local_group}
-use Rattle.core1_bytes.specs.Parts.{import_desc, import, global, export_desc, export, element, segment}
-use Rattle.core1_bytes.specs.Appends.{Appends}
-use Rattle.core1_bytes.proofs.Appending.{appends_bind, appends_map, mapped}
+use Rattle.core1_bytes.specs.Bodies.{expr, local_group, body}
+use Rattle.core1_bytes.specs.Parts.{import_desc, import, global, export_of, export_desc, export, element, segment}
+use Rattle.core1_bytes.specs.Appends.{Appends, export_index, Exports}
+use Rattle.core1_bytes.proofs.Appending.{appends_to, appends_bind, appends_map, mapped, found}
 use Rattle.core1_bytes.proofs.Nested.{coded, coded_alone}
 
 true_text : mutability.text (0x01 ∷ []) true
@@ -147,17 +148,27 @@ global_appends a b c g p q =
     appends_bind {Y = Global1} global_type (λ t. expr >>= λ code. always (record { ty = t.type; mutable = t.mutable; init = code })) a b c (record { type = g.ty; mutable = g.mutable }) g p
     (appends_map {Y = Global1} expr (λ code. record { ty = g.ty; mutable = g.mutable; init = code }) b c g.init q)
 
-kind_text : (d : ExportDesc1) (b : List ℕ) → u32.text b (export_index d) → export_desc.text (export_kind d ∷ b) d
-unfolding export_desc
-kind_text (exports.Func x) b h = (0x00, 0x00 ∷ [], b, refl, refl, mapped u32 (λ x. exports.Func x) b x h)
-kind_text (exports.Table x) b h = (0x01, 0x01 ∷ [], b, refl, refl, mapped u32 (λ x. exports.Table x) b x h)
-kind_text (exports.Memory x) b h = (0x02, 0x02 ∷ [], b, refl, refl, mapped u32 (λ x. exports.Memory x) b x h)
-kind_text (exports.Global x) b h = (0x03, 0x03 ∷ [], b, refl, refl, mapped u32 (λ x. exports.Global x) b x h)
+pub exports_func : (x : ℕ) → Exports (exports.Func x) 0x00
+unfolding export_desc export_of
+exports_func x = record { spells = λ b h. (0x00, 0x00 ∷ [], b, refl, refl, found u32 (export_of 0x00) b x _ refl h) }
 
-pub export_desc_appends : (a b c : List ℕ) (d : ExportDesc1) (kind index : ℕ) → kind ≡ export_kind d → index ≡ export_index d → Appends byte a b kind → Appends u32 b c index → Appends export_desc a c d
-export_desc_appends a b c d kind index e f p q =
-    coded (λ b. u32.text b (export_index d)) (λ b. export_desc.text b d) (export_kind d) a b c (kind_text d)
-    (subst (λ k. Appends byte a b k) e p) (subst (λ x. Appends u32 b c x) f q)
+pub exports_table : (x : ℕ) → Exports (exports.Table x) 0x01
+unfolding export_desc export_of
+exports_table x = record { spells = λ b h. (0x01, 0x01 ∷ [], b, refl, refl, found u32 (export_of 0x01) b x _ refl h) }
+
+pub exports_memory : (x : ℕ) → Exports (exports.Memory x) 0x02
+unfolding export_desc export_of
+exports_memory x = record { spells = λ b h. (0x02, 0x02 ∷ [], b, refl, refl, found u32 (export_of 0x02) b x _ refl h) }
+
+pub exports_global : (x : ℕ) → Exports (exports.Global x) 0x03
+unfolding export_desc export_of
+exports_global x = record { spells = λ b h. (0x03, 0x03 ∷ [], b, refl, refl, found u32 (export_of 0x03) b x _ refl h) }
+
+pub ruleset export_rules = (exports_func, exports_table, exports_memory, exports_global)
+
+pub export_desc_appends : (a b c : List ℕ) (d : ExportDesc1) (kind index : ℕ) → Exports d kind → index ≡ export_index d → Appends byte a b kind → Appends u32 b c index → Appends export_desc a c d
+export_desc_appends a b c d kind index begins f p q =
+    coded (λ b. u32.text b (export_index d)) (λ b. export_desc.text b d) kind a b c begins.spells p (subst (λ x. Appends u32 b c x) f q)
 
 pub export_appends : (a b c : List ℕ) (x : Export1) (t : List ℕ) → t ≡ x.name → Appends name a b t → Appends export_desc b c x.desc → Appends export a c x
 unfolding export
@@ -186,3 +197,7 @@ unfolding local_group
 group_appends a b c g p q =
     appends_bind {Y = LocalGroup1} u32 (λ n. value_type >>= λ t. always (record { count = n; ty = t })) a b c g.count g p
     (appends_map {Y = LocalGroup1} value_type (λ t. record { count = g.count; ty = t }) b c g.ty q)
+
+-- a text behind the count of its bytes is a body where it spells one
+pub body_appends : (a b text : List ℕ) (source : Body1) → body.text text source → Appends byte_vector a b text → Appends (sized u32 body) a b source
+body_appends a b text source h p = appends_to (λ t. byte_vector.text t text) (λ t. (sized u32 body).text t source) a b (λ t k. (text, k, h)) p

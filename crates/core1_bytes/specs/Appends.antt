@@ -6,17 +6,23 @@ use Rattle.core1_ast.specs.declared.module.op.Op1.TheVariants.{I32Const, I64Cons
 use Rattle.core1_ast.specs.declared.module.code.Instr1.{Instr1}
 use Rattle.core1_ast.specs.declared.module.code.Instr1.TheVariants as instrs
 use Rattle.core1_ast.specs.declared.module.code.Body1.{Body1}
+use Rattle.core1_ast.specs.declared.module.ty.BlockType1.{BlockType1}
+use Rattle.core1_ast.specs.declared.module.parts.ExportDesc1.{ExportDesc1}
+use Rattle.core1_ast.specs.declared.module.parts.ExportDesc1.TheVariants as exports
+use Rattle.nested_code.specs.declared.token.Token.TheVariants.{Plain, Open}
 use Rattle.core1_ast.specs.Typing.{Context, Typed, TypedCode}
-use Rattle.grammar_kit.specs.Form.{Form, many, vector}
+use Rattle.grammar_kit.specs.Form.{Form, vector}
 use Rattle.nested_code.specs.Nesting.{Tokens, Flat, Flats}
 use Rattle.wasm_frame.specs.Frame.{section}
 use Rattle.wasm_frame.specs.Leb128.{u32, s32, s64}
 use Rattle.core1_bytes.specs.declared.body.LocalGroup1.{LocalGroup1}
-use Rattle.core1_bytes.specs.Instructions.{Token1, token, has_arms, build, mem_arg}
-use Rattle.core1_bytes.specs.Bodies.{locals_of, body}
-use Rattle.core1_bytes.specs.Parts.{code_section}
-use Rattle.wasm_frame.specs.Name.{byte_vector}
-use Rattle.wasm_frame.specs.Payloads.{Each}
+use Rattle.core1_bytes.specs.declared.head.Head1.{Head1}
+use Rattle.core1_bytes.specs.declared.head.Head1.TheVariants as heads
+use Rattle.core1_bytes.specs.Types.{block_type}
+use Rattle.core1_bytes.specs.Instructions.{mem_arg}
+use Rattle.core1_bytes.specs.Tokens.{Token1, token, has_arms, build}
+use Rattle.core1_bytes.specs.Bodies.{locals_of}
+use Rattle.core1_bytes.specs.Parts.{export_desc}
 
 -- new is old with bytes behind it of which P holds
 pub record AppendsBy (P : List ℕ → Type 0) (old new : List ℕ) : Type 0 where
@@ -31,6 +37,30 @@ Appends f old new x = AppendsBy (λ b. f.text b x) old new
 -- bytes of which one fact holds, and then bytes of which another does
 abbrev pub Both : (List ℕ → Type 0) → (List ℕ → Type 0) → List ℕ → Type 0
 Both P Q b = (t : List ℕ) × (u : List ℕ) × (b ≡ t ++ u) × P t × Q u
+
+-- an instruction that holds no code and is none on floats
+abbrev pub IsPlain : Instr1 → Type 0
+IsPlain instrs.Unreachable = Unit {0}
+IsPlain instrs.Nop = Unit {0}
+IsPlain (instrs.Br l) = Unit {0}
+IsPlain (instrs.BrIf l) = Unit {0}
+IsPlain (instrs.BrTable ls last) = Unit {0}
+IsPlain instrs.Return = Unit {0}
+IsPlain (instrs.Call x) = Unit {0}
+IsPlain (instrs.CallIndirect t) = Unit {0}
+IsPlain instrs.Drop = Unit {0}
+IsPlain instrs.Select = Unit {0}
+IsPlain (instrs.LocalGet x) = Unit {0}
+IsPlain (instrs.LocalSet x) = Unit {0}
+IsPlain (instrs.LocalTee x) = Unit {0}
+IsPlain (instrs.GlobalGet x) = Unit {0}
+IsPlain (instrs.GlobalSet x) = Unit {0}
+IsPlain (instrs.Load op at) = Unit {0}
+IsPlain (instrs.Store op at) = Unit {0}
+IsPlain instrs.MemorySize = Unit {0}
+IsPlain instrs.MemoryGrow = Unit {0}
+IsPlain (instrs.Pure op) = Unit {0}
+IsPlain _ = ⊥
 
 -- the constant behind the opcode of an instruction that touches no state; others have none
 abbrev pub Constant : Op1 → List ℕ → Type 0
@@ -56,6 +86,31 @@ Immediates instrs.MemorySize b = b ≡ 0x00 ∷ []
 Immediates instrs.MemoryGrow b = b ≡ 0x00 ∷ []
 Immediates (instrs.Pure op) b = Constant op b
 Immediates _ b = b ≡ []
+
+-- behind this byte the immediates spell the instruction
+pub record Begins (i : Instr1) (k : ℕ) : Type 0 where
+  pub spells : (b : List ℕ) → Immediates i b → token.text (k ∷ b) (Plain i)
+
+-- the type of what holds code
+abbrev pub block_type_of : Head1 → BlockType1
+block_type_of (heads.Block t) = t
+block_type_of (heads.Loop t) = t
+block_type_of (heads.If t) = t
+
+-- behind this byte the type spells what holds code
+pub record Opens (h : Head1) (k : ℕ) : Type 0 where
+  pub spells : (b : List ℕ) → block_type.text b (block_type_of h) → token.text (k ∷ b) (Open h)
+
+-- the index of what is exported, among its kind
+abbrev pub export_index : ExportDesc1 → ℕ
+export_index (exports.Func x) = x
+export_index (exports.Table x) = x
+export_index (exports.Memory x) = x
+export_index (exports.Global x) = x
+
+-- behind this byte the index spells what is exported
+pub record Exports (d : ExportDesc1) (k : ℕ) : Type 0 where
+  pub spells : (b : List ℕ) → u32.text b (export_index d) → export_desc.text (k ∷ b) d
 
 -- tokens that are an instruction, or code
 pub record Spelling (Flattens : List Token1 → Type 0) (b : List ℕ) : Type 0 where
@@ -90,16 +145,6 @@ declared groups last = locals_of groups ++ replicate last.count last.ty
 pub record IsWrittenBody (b : Body1) : Type 0 where
   pub code : IsTypedCode b.code
   pub locals : length b.locals < 2 ^ 32
-
--- the text of each body, behind the count of its bytes
-pub record Texts (b : List ℕ) (bodies : List Body1) : Type 0 where
-  pub texts : List (List ℕ)
-  pub cut : (many byte_vector (length bodies)).text b texts
-  pub each : Each body.text texts bodies
-
--- the payload of the code section
-abbrev pub Bodies : List ℕ → List Body1 → Type 0
-Bodies payload bodies = (texts : List (List ℕ)) × code_section.text payload texts × Each body.text texts bodies
 
 -- the section of an id was appended, with a payload of which Q holds; or it was left out, where P holds
 pub record AppendsSection (id : ℕ) (P : Type 0) (Q : List ℕ → Type 0) (old new : List ℕ) : Type 0 where

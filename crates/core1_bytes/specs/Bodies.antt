@@ -1,5 +1,5 @@
 -- Expressions and the bodies of functions: chapter 5 of the 1.0 standard, "Expressions" and "Code Section".
-use Rattle.std.specs.Prelude.{ℕ, ◌^◌, length, List, nat_lt, sum_by, flat_map, replicate}
+use Rattle.std.specs.Prelude.{ℕ, Bool, false, ◌^◌, length, List, nat_lt, sum_by, flat_map, replicate}
 use Rattle.core1_ast.specs.declared.module.ty.Ty1.{Ty1}
 use Rattle.core1_ast.specs.declared.module.code.Instr1.{Instr1}
 use Rattle.core1_ast.specs.declared.module.code.Body1.{Body1}
@@ -10,7 +10,7 @@ use Rattle.wasm_frame.specs.Leb128.{u32}
 use Rattle.core1_bytes.specs.declared.body.LocalGroup1.{LocalGroup1}
 use Rattle.core1_bytes.specs.Nesting.{depth}
 use Rattle.core1_bytes.specs.Types.{value_type}
-use Rattle.core1_bytes.specs.Instructions.{token, has_arms, build}
+use Rattle.core1_bytes.specs.Tokens.{token, has_arms, build}
 
 -- "Expressions"
 unfoldable pub expr : Form (List Instr1)
@@ -36,6 +36,6 @@ body_with groups = expr >>= λ code. always (record { locals = locals_of groups;
 unfoldable pub body : Form Body1
 body = vector u32 local_group >>= λ groups. when (nat_lt (locals_count groups) (2 ^ 32)) (body_with groups) never
 
--- how many locals a body declares, and how deeply its instructions nest
-abbrev pub sizes_of : Body1 → ℕ × ℕ
-sizes_of b = (length b.locals, greatest depth b.code)
+-- how many locals a body declares, how deeply its instructions nest, and that none of them names a data segment
+abbrev pub sizes_of : Body1 → ℕ × ℕ × Bool
+sizes_of b = (length b.locals, greatest depth b.code, false)

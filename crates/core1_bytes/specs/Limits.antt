@@ -1,13 +1,11 @@
--- The limits of a file of 1.0, in the order in which they are tested. They are this project's own.
-use Rattle.std.specs.Prelude.{◌≡◌, ℕ, ◌+◌, ◌≤◌, max, List, [], ◌∷◌, length, Some, slice_get, sum_by}
-use Rattle.std.specs.List.{AllByRecursion}
+-- The limits of a file of 1.0. They are this project's own.
+use Rattle.std.specs.Prelude.{ℕ, ◌+◌, max, length, Option, Some, None, sum_by}
 use Rattle.grammar_kit.specs.Measures.{greatest}
+use Rattle.module_reading.specs.declared.kind.Kind.{Kind}
+use Rattle.module_reading.specs.declared.kind.Kind.TheVariants as kind
 use Rattle.core1_ast.specs.declared.module.parts.ImportDesc1.{ImportDesc1}
 use Rattle.core1_ast.specs.declared.module.parts.ImportDesc1.TheVariants as imports
 use Rattle.core1_ast.specs.declared.module.parts.Module1.{Module1}
-use Rattle.wasm_frame.specs.Payloads.{FirstWithout}
-use Rattle.core1_bytes.specs.declared.kind.Kind.{Kind}
-use Rattle.core1_bytes.specs.declared.kind.Kind.TheVariants as kind
 use Rattle.core1_bytes.specs.Nesting.{depth}
 
 -- how many functions an import adds
@@ -27,37 +25,33 @@ abbrev pub number : Kind → Module1 → ℕ
 number kind.Types m = length m.types
 number kind.Imports m = length m.imports
 number kind.Functions m = sum_by (λ i. func_count i.desc) m.imports + length m.funcs
+number kind.Tables m = length m.tables
+number kind.Memories m = length m.memories
+number kind.Tags m = 0
 number kind.Globals m = length m.globals
 number kind.Exports m = length m.exports
 number kind.Elements m = length m.elems
 number kind.Segments m = length m.datas
 number kind.Parameters m = greatest (λ t. length t.params) m.types
+number kind.Results m = greatest (λ t. length t.results) m.types
 number kind.Locals m = greatest (λ b. length b.locals) m.codes
+number kind.Payload m = 0
 number kind.Nesting m = nesting m
 
--- the most that a file may have
-abbrev pub limit : Kind → ℕ
-limit kind.Types = 300000
-limit kind.Imports = 300000
-limit kind.Functions = 300000
-limit kind.Globals = 300000
-limit kind.Exports = 300000
-limit kind.Elements = 300000
-limit kind.Segments = 300000
-limit kind.Parameters = 2000
-limit kind.Locals = 1000000
-limit kind.Nesting = 2500
-
--- the order of the tests
-abbrev pub kinds : List Kind
-kinds =
-    kind.Types ∷ kind.Imports ∷ kind.Functions ∷ kind.Globals ∷ kind.Exports ∷ kind.Elements ∷ kind.Segments ∷ kind.Parameters
-    ∷ kind.Locals ∷ kind.Nesting ∷ []
-
--- no number of the module passes its limit
-abbrev pub IsWithinLimits : Module1 → Type 0
-IsWithinLimits m = AllByRecursion (λ k. number k m ≤ limit k) kinds
-
--- the first kind in order whose number passes its limit
-abbrev pub FirstPassed : Module1 → Kind → Type 0
-FirstPassed m k = (i : ℕ) × (slice_get kinds i ≡ Some k) × FirstWithout (λ j. number j m ≤ limit j) kinds i
+-- the most that a file may have, if there is a limit
+abbrev pub limit : Kind → Option ℕ
+limit kind.Types = Some 300000
+limit kind.Imports = Some 300000
+limit kind.Functions = Some 300000
+limit kind.Tables = None
+limit kind.Memories = None
+limit kind.Tags = None
+limit kind.Globals = Some 300000
+limit kind.Exports = Some 300000
+limit kind.Elements = Some 300000
+limit kind.Segments = Some 300000
+limit kind.Parameters = Some 2000
+limit kind.Results = None
+limit kind.Locals = Some 1000000
+limit kind.Payload = None
+limit kind.Nesting = Some 2500

@@ -1,5 +1,5 @@
 -- The payloads of sections: chapter 5 of the 1.0 standard, "Modules".
-use Rattle.std.specs.Prelude.{ℕ, List, Option, Some, ◌==◌}
+use Rattle.std.specs.Prelude.{ℕ, List, Option, Some, None, ◌==◌, if◌then◌else◌}
 use Rattle.core1_ast.specs.declared.module.ty.FuncType1.{FuncType1}
 use Rattle.core1_ast.specs.declared.module.ty.Limits1.{Limits1}
 use Rattle.core1_ast.specs.declared.module.parts.Import1.{Import1}
@@ -12,6 +12,7 @@ use Rattle.core1_ast.specs.declared.module.parts.ExportDesc1.TheVariants as expo
 use Rattle.core1_ast.specs.declared.module.parts.Element1.{Element1}
 use Rattle.core1_ast.specs.declared.module.parts.Segment1.{Segment1}
 use Rattle.grammar_kit.specs.Form.{Form, never, always, byte, when, ◌>>=◌, vector}
+use Rattle.grammar_kit.specs.Choice.{given}
 use Rattle.wasm_frame.specs.Leb128.{u32}
 use Rattle.wasm_frame.specs.Name.{name, byte_vector}
 use Rattle.core1_bytes.specs.Types.{func_type, limits, table_type, global_type}
@@ -34,12 +35,16 @@ unfoldable pub global : Form Global1
 global = global_type >>= λ g. expr >>= λ code. always (record { ty = g.type; mutable = g.mutable; init = code })
 
 -- "Export Section": what is exported
+unfoldable pub export_of : ℕ → ℕ → Option ExportDesc1
+export_of k x =
+    if k == 0x00 then Some (exports.Func x)
+    else (if k == 0x01 then Some (exports.Table x)
+    else (if k == 0x02 then Some (exports.Memory x)
+    else (if k == 0x03 then Some (exports.Global x)
+    else None)))
+
 unfoldable pub export_desc : Form ExportDesc1
-export_desc = byte >>= λ k.
-    when (k == 0x00) (u32 >>= λ x. always (exports.Func x))
-    (when (k == 0x01) (u32 >>= λ x. always (exports.Table x))
-    (when (k == 0x02) (u32 >>= λ x. always (exports.Memory x))
-    (when (k == 0x03) (u32 >>= λ x. always (exports.Global x)) never)))
+export_desc = byte >>= λ k. u32 >>= λ x. given (export_of k x)
 
 -- "Export Section": an export
 unfoldable pub export : Form Export1
@@ -88,10 +93,6 @@ start_section = u32 >>= λ x. always (Some x)
 -- "Element Section"
 abbrev pub element_section : Form (List Element1)
 element_section = vector u32 element
-
--- "Code Section": the bytes of each body, whose count of bytes stands before it
-abbrev pub code_section : Form (List (List ℕ))
-code_section = vector u32 byte_vector
 
 -- "Data Section"
 abbrev pub data_section : Form (List Segment1)

@@ -1,22 +1,22 @@
 -- Which bytes spell a module of 1.0: chapter 5 of the 1.0 standard, "Modules", in three levels: the frame of sections,
--- the payload of each section, and the bodies of functions.
+-- the payload of each section, and the bodies of functions. What all versions share is module_reading's.
 use Rattle.std.specs.Prelude.{◌≡◌, ℕ, List, [], length, None, ◌==◌}
-use Rattle.std.specs.List.{AllByRecursion}
+use Rattle.core1_ast.specs.declared.module.code.Body1.{Body1}
 use Rattle.core1_ast.specs.declared.module.parts.Module1.{Module1}
 use Rattle.grammar_kit.specs.Form.{Chosen}
 use Rattle.wasm_frame.specs.declared.sections.Version.TheVariants.{One}
-use Rattle.wasm_frame.specs.Frame.{Part, Frame, Whole}
-use Rattle.wasm_frame.specs.Name.{IsCustom}
-use Rattle.wasm_frame.specs.Payloads.{Content, IsSpelled, Each}
-use Rattle.core1_bytes.specs.Parts.{type_section, import_section, func_section, table_section, memory_section, global_section, export_section, start_section, element_section, code_section, data_section}
+use Rattle.wasm_frame.specs.Frame.{Part}
+use Rattle.wasm_frame.specs.Payloads.{Content, IsSpelled}
+use Rattle.module_reading.specs.Format.{Format}
+use Rattle.module_reading.specs.Spells.{Spells}
 use Rattle.core1_bytes.specs.Bodies.{body}
+use Rattle.core1_bytes.specs.Limits.{number, limit}
+use Rattle.core1_bytes.specs.Parts.{type_section, import_section, func_section, table_section, memory_section, global_section, export_section, start_section, element_section, data_section}
 
--- the payload of a section is in the grammar of its id. A custom section begins with a name, and of the code section
--- this is the count and the cutting into bodies
+-- the payload of a section is in the grammar of its id
 abbrev pub InGrammar1 : ℕ → List ℕ → Type 0
 InGrammar1 id payload =
-    Chosen (id == 0) (IsCustom payload)
-    (Chosen (id == 1) (IsSpelled type_section payload)
+    Chosen (id == 1) (IsSpelled type_section payload)
     (Chosen (id == 2) (IsSpelled import_section payload)
     (Chosen (id == 3) (IsSpelled func_section payload)
     (Chosen (id == 4) (IsSpelled table_section payload)
@@ -25,17 +25,10 @@ InGrammar1 id payload =
     (Chosen (id == 7) (IsSpelled export_section payload)
     (Chosen (id == 8) (IsSpelled start_section payload)
     (Chosen (id == 9) (IsSpelled element_section payload)
-    (Chosen (id == 10) (IsSpelled code_section payload)
-    (Chosen (id == 11) (IsSpelled data_section payload) ⊥)))))))))))
+    (Chosen (id == 11) (IsSpelled data_section payload) ⊥)))))))))
 
-abbrev pub IsPart1 : Part → Type 0
-IsPart1 s = InGrammar1 s.id s.payload
-
--- the sections, the bodies that the code section is cut into, and what all of them spell. Custom sections add nothing
-pub record Grammar1 (b : List ℕ) (m : Module1) : Type 0 where
-  pub parts : List Part
-  pub frame : Frame One b parts Whole
-  pub within : AllByRecursion IsPart1 parts
+-- what the sections spell, the bodies left out
+pub record Contents1 (parts : List Part) (m : Module1) : Type 0 where
   pub types : Content 1 type_section [] parts m.types
   pub imports : Content 2 import_section [] parts m.imports
   pub funcs : Content 3 func_section [] parts m.funcs
@@ -46,11 +39,21 @@ pub record Grammar1 (b : List ℕ) (m : Module1) : Type 0 where
   pub start : Content 8 start_section None parts m.start
   pub elems : Content 9 element_section [] parts m.elems
   pub datas : Content 11 data_section [] parts m.datas
-  pub texts : List (List ℕ)
-  pub cut : Content 10 code_section [] parts texts
-  pub codes : Each body.text texts m.codes
 
--- the bytes spell the module; there are as many functions as bodies
-pub record Spells1 (b : List ℕ) (m : Module1) : Type 0 where
-  pub grammar : Grammar1 b m
-  pub counts : length m.funcs ≡ length m.codes
+-- the binary format of 1.0; there are as many functions as bodies
+abbrev pub one : Format Module1
+one = record {
+  version = One;
+  InGrammar = InGrammar1;
+  Contents = Contents1;
+  Body = Body1;
+  body = body;
+  codes = λ m. m.codes;
+  Agrees = λ m. length m.funcs ≡ length m.codes;
+  number = number;
+  limit = limit;
+}
+
+-- the bytes spell the module
+abbrev pub Spells1 : List ℕ → Module1 → Type 0
+Spells1 = Spells one

@@ -1,5 +1,5 @@
 -- How types are spelled: chapter 5 of the 1.0 standard, "Types".
-use Rattle.std.specs.Prelude.{ℕ, Bool, true, false, Option, Some, None, ◌==◌, if◌then◌else◌}
+use Rattle.std.specs.Prelude.{ℕ, Bool, true, false, Option, Some, None, option_map, ◌==◌, if◌then◌else◌}
 use Rattle.core1_ast.specs.declared.module.ty.Ty1.{Ty1}
 use Rattle.core1_ast.specs.declared.module.ty.Ty1.TheVariants as types
 use Rattle.core1_ast.specs.declared.module.ty.BlockType1.{BlockType1}
@@ -9,7 +9,7 @@ use Rattle.core1_ast.specs.declared.module.ty.Limits1.{Limits1}
 use Rattle.core1_ast.specs.Spaces.{GlobalType}
 use Rattle.grammar_kit.specs.Form.{Form, never, always, byte, when, ◌>>=◌, vector}
 use Rattle.wasm_frame.specs.Leb128.{u32}
-use Rattle.core1_bytes.specs.Choice.{choice}
+use Rattle.grammar_kit.specs.Choice.{given}
 
 -- "Value Types": the type with this byte
 abbrev pub type_of : ℕ → Option Ty1
@@ -19,11 +19,11 @@ type_of k =
     else (if k == 0x7E then Some types.I64 else (if k == 0x7D then Some types.F32 else (if k == 0x7C then Some types.F64 else None)))
 
 unfoldable pub value_type : Form Ty1
-value_type = byte >>= λ k. choice (type_of k) always never
+value_type = byte >>= λ k. given (type_of k)
 
 -- "Result Types": no result or one, the type of a block
 unfoldable pub block_type : Form BlockType1
-block_type = byte >>= λ k. when (k == 0x40) (always blocks.Empty) (choice (type_of k) (λ t. always (blocks.One t)) never)
+block_type = byte >>= λ k. when (k == 0x40) (always blocks.Empty) (given (option_map blocks.One (type_of k)))
 
 -- "Function Types"
 unfoldable pub func_type : Form FuncType1

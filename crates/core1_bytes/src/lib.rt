@@ -7,19 +7,13 @@
 #![tactic(auto)]
 
 mod body;
-mod fault;
 mod head;
-mod kind;
 pub mod laws;
 mod reading;
 mod writing;
 
 pub use body::LocalGroup1;
-pub use fault::ReadFault;
 pub use head::Head1;
-pub use kind::Kind;
+pub use module_reading::{Kind, ReadFault};
 pub use reading::read1;
 pub use writing::write1;
-
-#[cfg(test)]
-mod tests;

@@ -2,14 +2,18 @@
 
 mod bodies;
 mod code;
+mod instructions;
 mod measures;
-mod module;
-mod numbers;
-mod operators;
+mod named;
+mod one;
 mod parts;
 mod sections;
-mod tokens;
 mod types;
-mod walks;
 
-pub use module::read1;
+pub use bodies::{BodyEntry, GroupEntry};
+pub use instructions::IndexEntry;
+pub use one::read1;
+pub use parts::{
+    ElementEntry, ExportEntry, GlobalEntry, ImportEntry, MemoryEntry, SegmentEntry, TableEntry,
+};
+pub use types::{TypeEntry, ValueTypeEntry};

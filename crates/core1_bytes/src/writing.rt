@@ -2,10 +2,10 @@
 
 mod bodies;
 mod code;
+mod entry;
 mod opcodes;
 mod parts;
 mod sections;
 mod types;
-mod written;
 
 pub use sections::write1;

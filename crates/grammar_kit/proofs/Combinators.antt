@@ -1,10 +1,11 @@
 -- The combinators keep exactness. A composite form is exact by `search (exact_rules, ..) depth 12`, with the
 -- exactness of the forms that it names in the list.
-use Rattle.std.proofs.Common.{◌≡◌, ℕ, zero, suc, ◌≤◌, List, [], ◌∷◌, ◌++◌, length, take, drop, Bool, true, false, cond, ltb, Some, None, refl, sym, ap, ◌∙◌, append_assoc, arith}
+use Rattle.std.proofs.Common.{◌≡◌, ℕ, zero, suc, ◌≤◌, List, [], ◌∷◌, ◌++◌, length, take, drop, Bool, true, false, cond, ltb, Option, Some, None, refl, sym, ap, ◌∙◌, append_assoc, arith}
 use Rattle.std.proofs.lemmas.Option.{option_and_then_some, some_pair_parts}
 use Rattle.std.proofs.lemmas.Bool.{ltb-false, le-ltb}
 use Rattle.std.proofs.lemmas.List.{take_at, drop_at, take-append-drop, length-append, length-take}
 use Rattle.grammar_kit.specs.Form.{Form, never, always, first, byte, raw, when, ◌>>=◌, many, vector}
+use Rattle.grammar_kit.specs.Choice.{given, given_or}
 use Rattle.grammar_kit.specs.Exact.{Exact}
 
 pub exact_never : {X : Type 0} → Exact (never {X = X})
@@ -70,4 +71,12 @@ exact_many f (suc n) ef = exact_bind _ _ ef (λ x. exact_bind _ _ (exact_many f 
 pub exact_vector : {X : Type 0} (count : Form ℕ) (f : Form X) → Exact count → Exact f → Exact (vector count f)
 exact_vector count f ec ef = exact_bind _ _ ec (λ n. exact_many f n ef)
 
-pub ruleset exact_rules = (exact_never, exact_always, exact_byte, exact_raw, exact_when, exact_bind, exact_many, exact_vector)
+pub exact_given : {X : Type 0} (o : Option X) → Exact (given o)
+exact_given (Some x) = exact_always x
+exact_given None = exact_never
+
+pub exact_given_or : {X : Type 0} (o : Option X) (f : Form X) → Exact f → Exact (given_or o f)
+exact_given_or (Some x) f ef = exact_always x
+exact_given_or None f ef = ef
+
+pub ruleset exact_rules = (exact_never, exact_always, exact_byte, exact_raw, exact_when, exact_bind, exact_many, exact_vector, exact_given, exact_given_or)

@@ -1,10 +1,15 @@
 -- Measuring entries one after the other, as a loop does.
 use Rattle.std.proofs.Common.{◌≡◌, ℕ, suc, ◌-◌, ◌+◌, ◌<◌, List, ◌∷◌, Option, Some, None, max, refl, sym, ◌∙◌, add_assoc, arith}
 use Rattle.std.specs.Prelude.{option_and_then, option_map, sum_by}
+use Rattle.std.specs.Ordering.{ord_max, nat_cmp}
 use Rattle.std.proofs.lemmas.List.Sums.{sum_by-cons}
 use Rattle.std.proofs.lemmas.Option.{some_pair_parts}
 use Rattle.grammar_kit.specs.Form.{Form, many}
 use Rattle.grammar_kit.specs.Measures.{through, greatest}
+
+-- the greater of two numbers, as code finds it
+pub larger_is : (a b : ℕ) → ord_max nat_cmp a b ≡ max a b
+larger_is a b = grind arith
 
 module _ {X : Type 0} (size : X → ℕ) where
   -- the extent of what was measured before, and of what is still read

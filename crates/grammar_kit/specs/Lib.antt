@@ -1,4 +1,5 @@
 pub mod Form
+pub mod Choice
 pub mod Exact
 pub mod Gives
 pub mod Measures

@@ -1,4 +1,4 @@
-ghost use Rattle.std.specs.Prelude.{◌≡◌, ℕ, max};
+ghost use Rattle.std.specs.Prelude.{ℕ};
 ghost use Rattle.grammar_kit.specs.Form.{Form, many};
 ghost use Rattle.grammar_kit.specs.Gives.{Gives};
 ghost use Rattle.grammar_kit.specs.Measures.{through, extent};
@@ -51,12 +51,6 @@ impl<E: Entry> Measure for Dropped<E> {
     }
 }
 
-fn larger(a: u32, b: u32) -> u32
-    ensures { result ≡ max a b }
-{
-    if a < b { b } else { a }
-}
-
 /// The extent of the first `count` entries, and the bytes after them. No entry is kept.
 pub fn measure_many<M: Measure>(
     alloc: Global,
@@ -70,7 +64,7 @@ pub fn measure_many<M: Measure>(
     let mut rest = bytes;
     for _ in 0..count {
         let (size, after) = M::measure(alloc, rest)?;
-        greatest = larger(greatest, size);
+        greatest = greatest.max(size);
         total += u64::from(size);
         rest = after;
     }

@@ -15,8 +15,9 @@ use Rattle.code_new.specs.Code.{depth, depths}
 use Rattle.code_new.proofs.Leaves.{pure_leaf, local_leaf}
 use Rattle.read_new.specs.Core.{IsCore}
 use Rattle.read_new.specs.CoreFiles.{first_groups, HasNoGroup, SpellsCore}
-use Rattle.read_new.specs.Limits.{IsWithinLimits}
+use Rattle.module_reading.specs.Limits.{IsWithinLimits}
 use Rattle.read_new.specs.Reads.{Reads}
+use Rattle.read_new.specs.Spells.{three}
 use Rattle.read_new.specs.Typing.{Context, Typed, i32_const, binary, convert, local_get, TypedCode, none, more}
 
 exact_first_groups : Exact first_groups
@@ -50,7 +51,7 @@ flat_code _ _ _ _ (none c s) = refl
 flat_code _ _ _ _ (more c i code below takes gives after typed others) = omega (arith, flat_instr c i takes gives typed, flat_code c code (below ++ gives) after others)
 
 -- a core module has one of each that it has
-within : (m : Module) → IsCore m → IsWithinLimits m
+within : (m : Module) → IsCore m → IsWithinLimits three m
 within m core =
     let flat = flat_code _ core.code [] _ core.typed in
     rw (core.types, core.funcs, core.exports, core.bodies, core.bare.imports, core.bare.tables, core.bare.memories, core.bare.tags, core.bare.globals, core.bare.elems, core.bare.datas, flat)

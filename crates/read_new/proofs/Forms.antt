@@ -5,17 +5,17 @@ use Rattle.grammar_kit.proofs.Combinators.{exact_rules, exact_vector}
 use Rattle.grammar_kit.proofs.Sequences.{exact_sized}
 use Rattle.wasm_frame.proofs.Spelling.{exact_u32, exact_u64}
 use Rattle.wasm_frame.proofs.Text.{exact_name, exact_byte_vector}
-use Rattle.code_new.proofs.TypeForms.{exact_ref_type_at, exact_ref_type, exact_val_type}
+use Rattle.code_new.proofs.TypeForms.{exact_ref_type_at, exact_ref_type, exact_value_type}
 use Rattle.code_new.proofs.CodeForms.{exact_expr}
 use Rattle.read_new.specs.Types.{func_type, from_min, from_min_to_max, limits, mutability, tag}
 use Rattle.read_new.specs.Segments.{mode, index, items_type, entries, element, segment}
-use Rattle.read_new.specs.Parts.{imported_table, imported_global, import_desc, import, table, global, export_desc, export, type_section, import_section, func_section, table_section, memory_section, tag_section, global_section, export_section, start_section, element_section, data_count_section, code_section, data_section}
+use Rattle.read_new.specs.Parts.{imported_table, imported_global, import_desc, import, table, global, export_desc, export, type_section, import_section, func_section, table_section, memory_section, tag_section, global_section, export_section, start_section, element_section, data_count_section, data_section}
 use Rattle.read_new.specs.Bodies.{local_group, body_with, body}
 use Rattle.read_new.specs.Made.{body_section}
 
 pub exact_func_type : Exact func_type
 unfolding func_type
-exact_func_type = search (exact_rules, exact_u32, exact_val_type) depth 12
+exact_func_type = search (exact_rules, exact_u32, exact_value_type) depth 12
 
 exact_from_min : (wide : _) → Exact (from_min wide)
 unfolding from_min
@@ -67,7 +67,7 @@ exact_imported_table = search (exact_rules, exact_ref_type, exact_limits) depth 
 
 exact_imported_global : Exact imported_global
 unfolding imported_global
-exact_imported_global = search (exact_rules, exact_val_type, exact_mutability) depth 12
+exact_imported_global = search (exact_rules, exact_value_type, exact_mutability) depth 12
 
 exact_import_desc : Exact import_desc
 unfolding import_desc
@@ -83,7 +83,7 @@ exact_table = search (exact_rules, exact_ref_type, exact_ref_type_at, exact_limi
 
 pub exact_global : Exact global
 unfolding global
-exact_global = search (exact_rules, exact_val_type, exact_mutability, exact_expr) depth 12
+exact_global = search (exact_rules, exact_value_type, exact_mutability, exact_expr) depth 12
 
 exact_export_desc : Exact export_desc
 unfolding export_desc
@@ -95,7 +95,7 @@ exact_export = search (exact_rules, exact_name, exact_export_desc) depth 12
 
 exact_local_group : Exact local_group
 unfolding local_group
-exact_local_group = search (exact_rules, exact_u32, exact_val_type) depth 12
+exact_local_group = search (exact_rules, exact_u32, exact_value_type) depth 12
 
 exact_body_with : (groups : _) → Exact (body_with groups)
 unfolding body_with
@@ -137,9 +137,6 @@ exact_element_section = exact_vector _ _ exact_u32 exact_element
 
 pub exact_data_count_section : Exact data_count_section
 exact_data_count_section = search (exact_rules, exact_u32) depth 12
-
-pub exact_code_section : Exact code_section
-exact_code_section = exact_vector _ _ exact_u32 exact_byte_vector
 
 pub exact_data_section : Exact data_section
 exact_data_section = exact_vector _ _ exact_u32 exact_segment

@@ -5,7 +5,6 @@ pub mod Depths
 pub mod Forms
 pub mod Imports
 pub mod Measured
-pub mod Modules
-pub mod OneAnswer
-pub mod Passed
-pub mod Texts
+pub mod Owed
+pub mod Told
+pub mod TypeSizes

@@ -4,14 +4,14 @@ use Rattle.wasm_ast.specs.declared.module.code.Body.{Body}
 use Rattle.wasm_ast.specs.declared.module.ty.Ty.{Ty}
 use Rattle.grammar_kit.specs.Form.{Form, never, always, when, ◌>>=◌, vector}
 use Rattle.wasm_frame.specs.Leb128.{u32}
-use Rattle.code_new.specs.Types.{val_type}
+use Rattle.code_new.specs.Types.{value_type}
 use Rattle.code_new.specs.Code.{expr, depths}
 use Rattle.code_new.specs.Code.{names_data}
 use Rattle.read_new.specs.declared.parts.bodies.LocalGroup.{LocalGroup}
 
 -- a count of locals, and their type
 unfoldable pub local_group : Form LocalGroup
-local_group = u32 >>= λ n. val_type >>= λ t. always (record { count = n; ty = t })
+local_group = u32 >>= λ n. value_type >>= λ t. always (record { count = n; ty = t })
 
 -- how many locals the groups declare
 abbrev pub locals_count : List LocalGroup → ℕ

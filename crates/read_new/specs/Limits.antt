@@ -1,6 +1,5 @@
--- The limits of a file, in the order in which they are tested. They are this project's own.
-use Rattle.std.specs.Prelude.{◌≡◌, ℕ, ◌+◌, ◌≤◌, max, List, [], ◌∷◌, length, Some, option_map, slice_get, unwrap_or, sum_by}
-use Rattle.std.specs.List.{AllByRecursion}
+-- The limits of a file. They are this project's own.
+use Rattle.std.specs.Prelude.{ℕ, ◌+◌, max, List, length, Option, Some, option_map, slice_get, unwrap_or, sum_by}
 use Rattle.grammar_kit.specs.Measures.{greatest}
 use Rattle.wasm_ast.specs.declared.module.ty.FuncType.{FuncType}
 use Rattle.wasm_ast.specs.declared.module.parts.ImportDesc.{ImportDesc}
@@ -11,10 +10,9 @@ use Rattle.wasm_ast.specs.declared.module.parts.Mode.TheVariants.{Active}
 use Rattle.wasm_ast.specs.declared.module.parts.Element.{Element}
 use Rattle.wasm_ast.specs.declared.module.parts.Module.{Module}
 use Rattle.wasm_ast.specs.Flattening.{flat}
-use Rattle.wasm_frame.specs.Payloads.{FirstWithout}
+use Rattle.module_reading.specs.declared.kind.Kind.{Kind}
+use Rattle.module_reading.specs.declared.kind.Kind.TheVariants as kind
 use Rattle.code_new.specs.Code.{depths}
-use Rattle.read_new.specs.declared.kind.Kind.{Kind}
-use Rattle.read_new.specs.declared.kind.Kind.TheVariants as kind
 
 -- how many functions an import adds
 abbrev pub func_count : ImportDesc → ℕ
@@ -65,33 +63,19 @@ number kind.Payload m = greatest (payload_words m.types) m.tags
 number kind.Nesting m = nesting m
 
 -- the most that a file may have
-abbrev pub limit : Kind → ℕ
-limit kind.Types = 100000
-limit kind.Imports = 100000
-limit kind.Functions = 100000
-limit kind.Tables = 100
-limit kind.Memories = 100
-limit kind.Tags = 1000
-limit kind.Globals = 100000
-limit kind.Exports = 100000
-limit kind.Elements = 100000
-limit kind.Segments = 100000
-limit kind.Parameters = 1000
-limit kind.Results = 1000
-limit kind.Locals = 50000
-limit kind.Payload = 64
-limit kind.Nesting = 800
-
--- the order of the tests
-abbrev pub kinds : List Kind
-kinds =
-    kind.Types ∷ kind.Imports ∷ kind.Functions ∷ kind.Tables ∷ kind.Memories ∷ kind.Tags ∷ kind.Globals ∷ kind.Exports ∷ kind.Elements
-    ∷ kind.Segments ∷ kind.Parameters ∷ kind.Results ∷ kind.Locals ∷ kind.Payload ∷ kind.Nesting ∷ []
-
--- no number of the module passes its limit
-abbrev pub IsWithinLimits : Module → Type 0
-IsWithinLimits m = AllByRecursion (λ k. number k m ≤ limit k) kinds
-
--- the first kind in order whose number passes its limit
-abbrev pub FirstPassed : Module → Kind → Type 0
-FirstPassed m k = (i : ℕ) × (slice_get kinds i ≡ Some k) × FirstWithout (λ j. number j m ≤ limit j) kinds i
+abbrev pub limit : Kind → Option ℕ
+limit kind.Types = Some 100000
+limit kind.Imports = Some 100000
+limit kind.Functions = Some 100000
+limit kind.Tables = Some 100
+limit kind.Memories = Some 100
+limit kind.Tags = Some 1000
+limit kind.Globals = Some 100000
+limit kind.Exports = Some 100000
+limit kind.Elements = Some 100000
+limit kind.Segments = Some 100000
+limit kind.Parameters = Some 1000
+limit kind.Results = Some 1000
+limit kind.Locals = Some 50000
+limit kind.Payload = Some 64
+limit kind.Nesting = Some 800

@@ -1,17 +1,12 @@
 -- The module of the payloads of sections, as it is read.
-use Rattle.std.specs.Prelude.{◌≡◌, ℕ, List, [], Option, None, length}
-use Rattle.std.specs.List.{list_any}
+use Rattle.std.specs.Prelude.{ℕ, List, [], Option, None}
 use Rattle.wasm_ast.specs.declared.module.code.Body.{Body}
 use Rattle.wasm_ast.specs.declared.module.parts.Module.{Module}
 use Rattle.grammar_kit.specs.Form.{Form, vector}
-use Rattle.grammar_kit.specs.Measures.{greatest}
 use Rattle.grammar_kit.specs.Sequences.{sized}
 use Rattle.wasm_frame.specs.Leb128.{u32}
 use Rattle.wasm_frame.specs.Payloads.{value}
-use Rattle.code_new.specs.Code.{depths}
-use Rattle.code_new.specs.Code.{names_data}
 use Rattle.read_new.specs.Parts.{type_section, import_section, func_section, table_section, memory_section, tag_section, global_section, export_section, start_section, element_section, data_count_section, data_section}
-use Rattle.read_new.specs.declared.bodies.BodyExtent.{BodyExtent}
 use Rattle.read_new.specs.Bodies.{body}
 
 -- the bodies, each behind its size
@@ -35,10 +30,3 @@ made at = record {
   codes = value body_section [] (at 10);
   datas = value data_section [] (at 11);
 }
-
--- how many bodies there are, the greatest of their sizes, and whether one names a data segment
-pub record IsExtentOf (e : BodyExtent) (codes : List Body) : Type 0 where
-  pub count : e.count ≡ length codes
-  pub locals : e.locals ≡ greatest (λ b. length b.locals) codes
-  pub nesting : e.nesting ≡ greatest (λ b. depths b.code) codes
-  pub names_data : e.names_data ≡ list_any (λ b. names_data b.code) codes

@@ -14,9 +14,9 @@ use Rattle.wasm_ast.specs.declared.module.parts.Element.{Element}
 use Rattle.wasm_ast.specs.declared.module.parts.Segment.{Segment}
 use Rattle.grammar_kit.specs.Form.{Form, never, always, byte, when, ◌>>=◌, vector}
 use Rattle.wasm_frame.specs.Leb128.{u32}
-use Rattle.wasm_frame.specs.Name.{name, byte_vector}
+use Rattle.wasm_frame.specs.Name.{name}
 use Rattle.wasm_frame.specs.Payloads.{optional}
-use Rattle.code_new.specs.Types.{val_type, ref_type, ref_type_at}
+use Rattle.code_new.specs.Types.{value_type, ref_type, ref_type_at}
 use Rattle.code_new.specs.Code.{expr}
 use Rattle.read_new.specs.Types.{func_type, limits, mutability, tag}
 use Rattle.read_new.specs.Segments.{element, segment}
@@ -26,7 +26,7 @@ unfoldable pub imported_table : Form ImportDesc
 imported_table = ref_type >>= λ t. limits >>= λ l. always (imports.Table t l)
 
 unfoldable pub imported_global : Form ImportDesc
-imported_global = val_type >>= λ t. mutability >>= λ m. always (imports.Global t m)
+imported_global = value_type >>= λ t. mutability >>= λ m. always (imports.Global t m)
 
 -- "Import Section", what is imported
 unfoldable pub import_desc : Form ImportDesc
@@ -49,7 +49,7 @@ table = byte >>= λ b. when (b == 0x40)
 
 -- "Global Section"
 unfoldable pub global : Form Global
-global = val_type >>= λ t. mutability >>= λ m. expr >>= λ c. always (record { ty = t; mutable = m; init = c })
+global = value_type >>= λ t. mutability >>= λ m. expr >>= λ c. always (record { ty = t; mutable = m; init = c })
 
 -- "Export Section", what is exported
 unfoldable pub export_desc : Form ExportDesc
@@ -107,10 +107,6 @@ element_section = vector u32 element
 -- "Data Count Section": how many data segments there are
 abbrev pub data_count_section : Form (Option ℕ)
 data_count_section = optional
-
--- "Code Section": the bytes of each body, whose count of bytes stands before it
-abbrev pub code_section : Form (List (List ℕ))
-code_section = vector u32 byte_vector
 
 -- "Data Section"
 abbrev pub data_section : Form (List Segment)

@@ -1,47 +1,38 @@
 // The module of a file whose payloads are in the grammar and within the limits.
 
-ghost use Rattle.std.specs.Prelude.{◌≡◌, All, IfOk};
-ghost use Rattle.wasm_frame.specs.Frame.{IsWithin, parts_of};
-ghost use Rattle.wasm_frame.specs.Payloads.{payload_of};
+ghost use Rattle.std.specs.Prelude.{◌≡◌, IfOk};
+ghost use Rattle.module_reading.specs.Files.{payloads};
 ghost use Rattle.read_new.specs.Made.{made};
+ghost use Rattle.read_new.specs.Sizes.{declared_of};
 
 use crate::parts::{
     BodyEntry, ElementEntry, ExportEntry, FuncEntry, GlobalEntry, ImportEntry, LimitsEntry,
     SegmentEntry, TableEntry,
 };
-use crate::sizes::{entries_at, number_at};
-use sqlite_items::Items;
+use crate::three::TypesAndTags;
+use module_reading::File;
 use std::alloc::{AllocError, Global};
-use wasm_ast::module::{FuncType, Module};
-use wasm_frame::sections::Section;
+use wasm_ast::module::Module;
 
 /// The module, of which the function types and the tags are built already.
 #[tactic(auto, unfolding(crate::specs::Made::made))]
-pub fn build(
-    alloc: Global,
-    b: &[u8],
-    found: &[Section],
-    types: Items<FuncType>,
-    tags: Items<u32>,
-) -> Result<Module, AllocError>
-    requires within { All (IsWithin b.now) found.now }
-    requires types { types ≡ (made (λ id. payload_of id (parts_of b.now found.now))).types }
-    requires tags { tags ≡ (made (λ id. payload_of id (parts_of b.now found.now))).tags }
-    ensures { IfOk result (λ m. m ≡ made (λ id. payload_of id (parts_of b.now found.now))) }
+pub fn build(alloc: Global, file: &File<'_>, declared: TypesAndTags) -> Result<Module, AllocError>
+    requires { declared ≡ declared_of (made (payloads file.now)) }
+    ensures { IfOk result (λ m. m ≡ made (payloads file.now)) }
 {
     Ok(Module {
-        types,
-        imports: entries_at::<ImportEntry>(alloc, b, found, 2)?,
-        funcs: entries_at::<FuncEntry>(alloc, b, found, 3)?,
-        tables: entries_at::<TableEntry>(alloc, b, found, 4)?,
-        memories: entries_at::<LimitsEntry>(alloc, b, found, 5)?,
-        tags,
-        globals: entries_at::<GlobalEntry>(alloc, b, found, 6)?,
-        exports: entries_at::<ExportEntry>(alloc, b, found, 7)?,
-        start: number_at(b, found, 8),
-        elems: entries_at::<ElementEntry>(alloc, b, found, 9)?,
-        data_count: number_at(b, found, 12),
-        codes: entries_at::<BodyEntry>(alloc, b, found, 10)?,
-        datas: entries_at::<SegmentEntry>(alloc, b, found, 11)?,
+        types: declared.types,
+        imports: file.entries::<ImportEntry>(alloc, 2)?,
+        funcs: file.entries::<FuncEntry>(alloc, 3)?,
+        tables: file.entries::<TableEntry>(alloc, 4)?,
+        memories: file.entries::<LimitsEntry>(alloc, 5)?,
+        tags: declared.tags,
+        globals: file.entries::<GlobalEntry>(alloc, 6)?,
+        exports: file.entries::<ExportEntry>(alloc, 7)?,
+        start: file.number(8),
+        elems: file.entries::<ElementEntry>(alloc, 9)?,
+        data_count: file.number(12),
+        codes: file.entries::<BodyEntry>(alloc, 10)?,
+        datas: file.entries::<SegmentEntry>(alloc, 11)?,
     })
 }

@@ -10,7 +10,7 @@ ghost use Rattle.read_new.specs.Spells.{Spells};
 use crate::core_module::is_core;
 use std::alloc::{AllocError, Global};
 use wasm_ast::module::Module;
-use wasm_frame::numbers::split_u32;
+use wasm_frame::leb128::split_u32;
 use wasm_frame::payloads::payload_of;
 use wasm_frame::sections::{FrameFault, Section, Version, sections};
 

@@ -2,7 +2,7 @@
 
 ghost use Rattle.std.specs.Prelude.{◌≡◌, ℕ, List, Result, Ok};
 ghost use Rattle.wasm_ast.specs.declared.module.parts.Module.{Module};
-ghost use Rattle.read_new.specs.declared.fault.ReadFault.{ReadFault};
+ghost use Rattle.module_reading.specs.declared.fault.ReadFault.{ReadFault};
 ghost use Rattle.read_new.specs.CoreFiles.{SpellsCore};
 ghost use Rattle.read_new.specs.Reads.{Reads};
 ghost use Rattle.read_new.specs.Spells.{Spells};

@@ -1,32 +1,24 @@
 //! Reads modules of WebAssembly 3.0.
 //!
-//! `specs/Spells.antt` says which bytes spell a module, in three levels: the frame of sections, the payload of each
-//! section by the forms of `specs/Parts.antt`, and each body by those of `specs/Bodies.antt`. `specs/Limits.antt` has
-//! the limits, and `specs/Reads.antt` says what each answer means. A reader in `parts` gives what its form reads.
+//! `specs/Spells.antt` says which bytes spell a module, by the forms of `specs/Parts.antt` and those of `specs/Bodies.antt`,
+//! as a version of the format that `module_reading` reads. `specs/Limits.antt` has the limits, and `specs/Reads.antt` says
+//! what each answer means. A reader in `parts` gives what its form reads.
 //! `specs/Typing.antt` has the rules by which code is typed, and `specs/Core.antt` says what a core module is.
 #![tactic(auto)]
 
-mod bodies;
 mod building;
+mod checking;
 mod core_file;
 mod core_module;
 mod counts;
-mod fault;
-mod kind;
 pub mod laws;
-mod numbers;
 mod parts;
 mod payload;
 mod reading;
-mod sections;
-mod sizes;
+mod three;
 mod typing;
 
 pub use core_file::is_core_file;
-pub use fault::ReadFault;
-pub use kind::Kind;
-pub use reading::read;
+pub use module_reading::{Kind, ReadFault};
+pub use reading::{read, read_file};
 pub use typing::is_typed;
-
-#[cfg(test)]
-mod tests;

@@ -9,11 +9,11 @@ mod segments;
 mod tables;
 mod types;
 
-pub use bodies::{BodyEntry, BodySizes, LocalGroup, TextMeasure, measure_body};
+pub use bodies::{BodyEntry, LocalGroup, measure_body};
 pub use exports::ExportEntry;
 pub use funcs::FuncEntry;
 pub use globals::{GlobalEntry, GlobalMeasure};
 pub use imports::{FunctionImports, ImportEntry};
 pub use segments::{ElementEntry, ElementMeasure, SegmentEntry, SegmentMeasure};
 pub use tables::{LimitsEntry, TableEntry, TableMeasure, TagEntry};
-pub use types::{ParameterCounts, ResultCounts, TypeEntry};
+pub use types::{TypeEntry, type_sizes};

@@ -1,11 +1,5 @@
 -- The program's tables hold what the rows say.
-use Rattle.std.proofs.Common.{◌≡◌, ℕ, ◌<◌, ◌≤◌, List, [], ◌∷◌, map, get_or, true, Option, Some, None, refl, sym, ap, ◌∙◌, nat_eq, nat_lt, inl, inr, arith}
-use Rattle.std.specs.Map.{lookup}
-use Rattle.std.specs.List.{list_all, range_with_len}
-use Rattle.std.proofs.lemmas.Bool.{eqb-true, ltb-true, and_parts}
-use Rattle.std.proofs.lemmas.Bool.Decides.{eqb_tells}
-use Rattle.std.proofs.lemmas.Option.{same_Some}
-use Rattle.std.proofs.lemmas.List.FromFn.{get_or-map-range_with_len}
+use Rattle.std.proofs.Common.{◌≡◌, ℕ, ◌-◌, ◌<◌, ◌≤◌, List, [], ◌∷◌, map, get_or, true, Option, Some, None, refl, sym, ap, ◌∙◌, nat_eq, nat_lt, inl, inr, arith}
 use Rattle.lane_core.specs.declared.operators.named.LaneOp.{LaneOp}
 use Rattle.lane_core.specs.declared.operators.named.LaneOp.TheVariants.{Load, Store, LoadLane, StoreLane, Const, Shuffle, Splat, Extract, Replace, Bitselect, One, Two, Shift, Test}
 use Rattle.lane_core.specs.declared.vector.Shape.{Shape}
@@ -29,6 +23,7 @@ use Rattle.lane_core.specs.contracts.operators.lanes.Lane1 as one
 use Rattle.lane_core.specs.contracts.operators.lanes.LaneShift as shift
 use Rattle.lane_core.specs.contracts.operators.lanes.LaneTest as test
 use Rattle.lane_core.specs.contracts.operators.pairs.Lane2 as two
+use Rattle.opcode_table.proofs.Rows.{none_outside, code_alone, table_at}
 use Rattle.simd_table.specs.Codes.{name_of, rows, loads_and_constants, comparisons, bits, single_lanes, bytes, halves, words, long_words}
 use Rattle.simd_table.specs.declared.codes.TheConstants.{LOADS, EXTRACTS, ONES, TWOS, SHIFTS, TESTS, LANE_LOADS, LANE_STORES, SPLATS, REPLACES}
 use Rattle.simd_table.specs.declared.names.TheConstants.{NAMES}
@@ -151,48 +146,18 @@ code (Two op) = two_code op
 code (Shift op) = shift_code op
 code (Test op) = test_code op
 
--- each row has the code of its instruction
-coded : list_all (λ (r : ℕ × LaneOp). nat_eq (code r.1) r.0) rows ≡ true
-unfolding rows loads_and_constants comparisons bits single_lanes bytes halves words long_words code
-coded = refl
-
-found : (rs : List (ℕ × LaneOp)) (k : ℕ) (op : LaneOp) → list_all (λ (r : ℕ × LaneOp). nat_eq (code r.1) r.0) rs ≡ true → lookup (λ n. nat_eq n k) rs ≡ Some op → code op ≡ k
-found [] k op all e = absurd cc
-found (r ∷ rs) k op all e =
-    let parts = and_parts _ _ all in
-    elim (eqb_tells r.0 k) [
-      | inl same ↦ let here : r.1 ≡ op = same_Some _ _ (rw same.0 at e) in ap code (sym here) ∙ eqb-true _ _ parts.0 ∙ same.1
-      | inr other ↦ found rs k op parts.1 (rw other.0 at e)
-    ]
-
--- an instruction has one row
+-- and no other code's
 pub one_code_only : (k n : ℕ) (op : LaneOp) → name_of k ≡ Some op → name_of n ≡ Some op → k ≡ n
-unfolding name_of
-one_code_only k n op p q = sym (found rows k op coded p) ∙ found rows n op coded q
+unfolding name_of rows loads_and_constants comparisons bits single_lanes bytes halves words long_words code
+one_code_only k n op p q = code_alone code rows k op refl p ∙ sym (code_alone code rows n op refl q)
 
--- the table of names holds the row of each code below its length
-names_are : map name_of (range_with_len 0 224) ≡ NAMES
-unfolding name_of rows loads_and_constants comparisons bits single_lanes bytes halves words long_words
-names_are = refl
-
+-- the table of names holds the row of each code below its length, and no row has a greater code
 pub name_at : (k : ℕ) (d : Option LaneOp) → k < 224 → get_or NAMES k d ≡ name_of k
-name_at k d below = ap (λ (xs : List (Option LaneOp)). get_or xs k d) (sym names_are) ∙ get_or-map-range_with_len name_of 0 224 k k d below (omega arith)
-
--- and no row has a greater code
-short : list_all (λ (r : ℕ × LaneOp). nat_lt r.0 224) rows ≡ true
-unfolding rows loads_and_constants comparisons bits single_lanes bytes halves words long_words
-short = refl
-
-none_past : (rs : List (ℕ × LaneOp)) (k : ℕ) → 224 ≤ k → list_all (λ (r : ℕ × LaneOp). nat_lt r.0 224) rs ≡ true → lookup (λ n. nat_eq n k) rs ≡ None
-none_past [] k past all = refl
-none_past (r ∷ rs) k past all =
-    let parts = and_parts _ _ all in
-    let less : r.0 < 224 = ltb-true _ _ parts.0 in
-    elim (eqb_tells r.0 k) [
-      | inl same ↦ absurd (omega (arith, same.1))
-      | inr other ↦ rw other.0 (none_past rs k past parts.1)
-    ]
+unfolding name_of rows loads_and_constants comparisons bits single_lanes bytes halves words long_words
+name_at k d below =
+    let all : k - 0 ≡ k = omega arith in
+    rw all at (table_at name_of 0 224 NAMES refl k d (omega arith) (omega arith))
 
 pub no_name : (k : ℕ) → 224 ≤ k → name_of k ≡ None
-unfolding name_of
-no_name k past = none_past rows k past short
+unfolding name_of rows loads_and_constants comparisons bits single_lanes bytes halves words long_words
+no_name k past = none_outside 0 223 rows k refl (inr (omega arith, omega arith))

@@ -9,6 +9,3 @@ mod names;
 
 pub use codes::code_of;
 pub use names::name_of;
-
-#[cfg(test)]
-mod tests;

@@ -2,7 +2,7 @@
 use Rattle.std.proofs.Common.{◌≡◌, ℕ, ◌-◌, ◌<◌, ◌≤◌, List, length, take, drop, Some, None, sym, ap, subst, ◌∙◌, arith}
 use Rattle.std.proofs.lemmas.List.{take_at, take-append-drop, length-append}
 use Rattle.grammar_kit.proofs.Consequences.{none_spells}
-use Rattle.wasm_frame.specs.declared.numbers.Sign.{Sign}
+use Rattle.wasm_frame.specs.declared.leb128.Sign.{Sign}
 use Rattle.wasm_frame.specs.Leb128.{Leb, read_leb, integer, IsAtFront}
 use Rattle.wasm_frame.proofs.Spelling.{exact_integer}
 

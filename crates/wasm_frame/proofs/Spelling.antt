@@ -5,8 +5,8 @@ use Rattle.std.proofs.lemmas.Bool.{cases_lt, lt-ltb, le-ltb, ltb-true, and_parts
 use Rattle.std.proofs.lemmas.Bool.Decides.{nat_tests}
 use Rattle.std.proofs.lemmas.Option.{some_pair_parts}
 use Rattle.grammar_kit.specs.Exact.{Exact}
-use Rattle.wasm_frame.specs.declared.numbers.Sign.{Sign}
-use Rattle.wasm_frame.specs.declared.numbers.Sign.TheVariants.{Unsigned, Signed}
+use Rattle.wasm_frame.specs.declared.leb128.Sign.{Sign}
+use Rattle.wasm_frame.specs.declared.leb128.Sign.TheVariants.{Unsigned, Signed}
 use Rattle.wasm_frame.specs.Leb128.{Last, Leb, last_value, read_leb, integer, integer_after, u32, u64, s32, s64, s33, IsShortest}
 use Rattle.wasm_frame.proofs.Powers.{seven_more, halves, within_seven}
 

@@ -2,8 +2,8 @@
 -- here as its bits, from 0 to 2 ^ w - 1: a signed one as its two's complement (`Signed`).
 use Rattle.std.specs.Prelude.{◌≡◌, ℕ, ◌+◌, ◌-◌, ◌*◌, ◌^◌, ◌<◌, ◌≤◌, ◌⊎◌, ◌&&◌, List, [], ◌∷◌, ◌++◌, length, take, Option, Some, None, option_map, nat_lt, nat_le, if◌then◌else◌}
 use Rattle.grammar_kit.specs.Form.{Form}
-use Rattle.wasm_frame.specs.declared.numbers.Sign.{Sign}
-use Rattle.wasm_frame.specs.declared.numbers.Sign.TheVariants.{Unsigned, Signed}
+use Rattle.wasm_frame.specs.declared.leb128.Sign.{Sign}
+use Rattle.wasm_frame.specs.declared.leb128.Sign.TheVariants.{Unsigned, Signed}
 
 -- a last byte b spells the number n of w bits. Its bits past the w-th are zeros, or copies of the sign
 abbrev pub Last : Sign → ℕ → ℕ → ℕ → Type 0

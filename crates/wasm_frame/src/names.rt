@@ -2,7 +2,7 @@ ghost use Rattle.std.specs.Prelude.{◌↔◌, IsTrue};
 ghost use Rattle.grammar_kit.specs.Gives.{GivesOption};
 ghost use Rattle.wasm_frame.specs.Name.{byte_vector, name, utf8, IsCustom};
 
-use crate::numbers::split_u32;
+use crate::leb128::split_u32;
 use grammar_kit::read_raw;
 
 /// The vector of bytes at the front, and the bytes after it. `None` exactly where none stands there.

@@ -12,13 +12,14 @@ use super::types::split_value_type;
 use crate::body::LocalGroup1;
 use core1_ast::module::{Body1, Ty1};
 use grammar_kit::{Entry, FormError, Measure, measure_many, read_many};
+use module_reading::BodySizes;
 use sqlite_items::Items;
 use std::alloc::{AllocError, Global};
+use wasm_frame::leb128::split_u32;
 use wasm_frame::names::split_byte_vector;
-use wasm_frame::numbers::split_u32;
 
 /// A group of locals as an entry.
-struct GroupEntry;
+pub struct GroupEntry;
 
 impl Entry for GroupEntry {
     type Value = LocalGroup1;
@@ -49,19 +50,10 @@ impl Measure for GroupMeasure {
     }
 }
 
-/// How large a body is.
-#[derive(Clone, Copy, Debug, PartialEq, Eq)]
-pub struct BodySizes {
-    /// How many locals it declares.
-    pub locals: u64,
-    /// How deeply instructions nest in it.
-    pub nesting: u32,
-}
-
 /// How large the body is that all of the bytes spell. Neither locals nor instructions are kept.
 #[tactic(auto, unfolding(crate::specs::Bodies::body, crate::specs::Bodies::body_with))]
 pub fn measure_body(alloc: Global, text: &[u8]) -> Result<BodySizes, FormError>
-    ensures { Gives (λ s. (s.locals, s.nesting)) result (option_map sizes_of (whole (body.read text.now))) }
+    ensures { Gives (λ s. (s.locals, s.nesting, s.names_data)) result (option_map sizes_of (whole (body.read text.now))) }
 {
     let (count, rest) = split_u32(text).ok_or(FormError::Malformed)?;
     let (extent, rest) = measure_many::<GroupMeasure>(alloc, count, rest)?;
@@ -75,6 +67,7 @@ pub fn measure_body(alloc: Global, text: &[u8]) -> Result<BodySizes, FormError>
     Ok(BodySizes {
         locals: extent.total,
         nesting,
+        names_data: false,
     })
 }
 

@@ -3,11 +3,11 @@
 ghost use Rattle.std.specs.Prelude.{◌≡◌, false};
 ghost use Rattle.grammar_kit.specs.Gives.{Gives};
 ghost use Rattle.grammar_kit.specs.Measures.{through, greatest};
-ghost use Rattle.core1_bytes.specs.Instructions.{token, has_arms, build};
+ghost use Rattle.core1_bytes.specs.Tokens.{token, has_arms, build};
 ghost use Rattle.core1_bytes.specs.Bodies.{expr};
 ghost use Rattle.core1_bytes.specs.Nesting.{depth};
 
-use super::tokens::{Token1, read_token};
+use super::instructions::{Token1, read_token};
 use crate::head::Head1;
 use core1_ast::module::{Code1, Instr1};
 use grammar_kit::FormError;

@@ -5,22 +5,20 @@ ghost use Rattle.grammar_kit.specs.Form.{vector, many};
 ghost use Rattle.grammar_kit.specs.Gives.{Gives};
 ghost use Rattle.grammar_kit.specs.Measures.{through, greatest};
 ghost use Rattle.wasm_frame.specs.Leb128.{u32};
-ghost use Rattle.wasm_frame.specs.Name.{byte_vector};
 ghost use Rattle.core1_bytes.specs.Types.{value_type, func_type};
 ghost use Rattle.core1_bytes.specs.Nesting.{depth};
 ghost use Rattle.core1_bytes.specs.Limits.{func_count};
 ghost use Rattle.core1_bytes.specs.Parts.{import, global, element, segment};
 
 use super::code::measure_expr;
+use super::instructions::IndexEntry;
 use super::parts::split_import_desc;
-use super::tokens::IndexEntry;
 use super::types::{ValueTypeEntry, split_global_type};
 use core1_ast::module::{Element1, FuncType1, Global1, Import1, ImportDesc1, Segment1};
 use grammar_kit::{Dropped, FormError, Measure, measure_many, read_byte};
-use num_core::lists::Bytes;
 use std::alloc::Global;
+use wasm_frame::leb128::split_u32;
 use wasm_frame::names::{split_byte_vector, split_name};
-use wasm_frame::numbers::split_u32;
 
 /// The bytes behind the first `count` value types, none of which is kept.
 fn skip_types(alloc: Global, count: u32, bytes: &[u8]) -> Result<&[u8], FormError>
@@ -159,21 +157,5 @@ impl Measure for SegmentMeasure {
         let (nesting, rest) = measure_expr(alloc, rest)?;
         let (_, rest) = split_byte_vector(rest).ok_or(FormError::Malformed)?;
         Ok((nesting, rest))
-    }
-}
-
-/// The text of a body behind its size, which is not looked into: of size 0.
-pub struct TextMeasure;
-
-impl Measure for TextMeasure {
-    type Value = Bytes;
-
-    ghost form = { byte_vector };
-
-    ghost size = { λ text. 0 };
-
-    fn measure(_alloc: Global, bytes: &[u8]) -> Result<(u32, &[u8]), FormError> {
-        let (_, rest) = split_byte_vector(bytes).ok_or(FormError::Malformed)?;
-        Ok((0, rest))
     }
 }

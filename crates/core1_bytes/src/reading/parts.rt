@@ -3,10 +3,10 @@
 ghost use Rattle.std.specs.Prelude.{◌≡◌};
 ghost use Rattle.grammar_kit.specs.Gives.{Gives, GivesOption};
 ghost use Rattle.core1_bytes.specs.Types.{limits, table_type};
-ghost use Rattle.core1_bytes.specs.Parts.{import_desc, import, global, export_desc, export, element, segment};
+ghost use Rattle.core1_bytes.specs.Parts.{import_desc, import, global, export_of, export_desc, export, element, segment};
 
 use super::code::read_expr;
-use super::tokens::IndexEntry;
+use super::instructions::IndexEntry;
 use super::types::{read_list, split_global_type, split_limits, split_table_type};
 use core1_ast::module::{
     Element1, Export1, ExportDesc1, Global1, Import1, ImportDesc1, Limits1, Segment1,
@@ -14,8 +14,8 @@ use core1_ast::module::{
 use grammar_kit::{Entry, FormError, read_byte};
 use num_core::lists::{Bytes, Text};
 use std::alloc::Global;
+use wasm_frame::leb128::split_u32;
 use wasm_frame::names::{split_byte_vector, split_name};
-use wasm_frame::numbers::split_u32;
 
 /// What an import asks for, at the front, and the bytes after it.
 #[tactic(auto, unfolding(crate::specs::Parts::import_desc))]
@@ -105,31 +105,29 @@ impl Entry for GlobalEntry {
     }
 }
 
+/// What an export of this kind names, by its index.
+#[tactic(auto, unfolding(crate::specs::Parts::export_of))]
+fn export_of(kind: u8, index: u32) -> Option<ExportDesc1>
+    ensures { result ≡ export_of kind index }
+{
+    match kind {
+        0x00 => Some(ExportDesc1::Func(index)),
+        0x01 => Some(ExportDesc1::Table(index)),
+        0x02 => Some(ExportDesc1::Memory(index)),
+        0x03 => Some(ExportDesc1::Global(index)),
+        _ => None,
+    }
+}
+
 /// What an export names, at the front, and the bytes after it.
 #[tactic(auto, unfolding(crate::specs::Parts::export_desc))]
 fn split_export_desc(bytes: &[u8]) -> Option<(ExportDesc1, &[u8])>
     ensures { GivesOption (λ p. (p.0, p.1.now)) result (export_desc.read bytes.now) }
 {
     let (kind, rest) = read_byte(bytes)?;
-    match kind {
-        0x00 => {
-            let (index, rest) = split_u32(rest)?;
-            Some((ExportDesc1::Func(index), rest))
-        }
-        0x01 => {
-            let (index, rest) = split_u32(rest)?;
-            Some((ExportDesc1::Table(index), rest))
-        }
-        0x02 => {
-            let (index, rest) = split_u32(rest)?;
-            Some((ExportDesc1::Memory(index), rest))
-        }
-        0x03 => {
-            let (index, rest) = split_u32(rest)?;
-            Some((ExportDesc1::Global(index), rest))
-        }
-        _ => None,
-    }
+    let (index, rest) = split_u32(rest)?;
+    let desc = export_of(kind, index)?;
+    Some((desc, rest))
 }
 
 /// An entry of the export section.

@@ -10,7 +10,7 @@ use core1_ast::module::{BlockType1, FuncType1, Limits1, Ty1};
 use grammar_kit::{Entry, FormError, read_byte, read_many};
 use sqlite_items::Items;
 use std::alloc::Global;
-use wasm_frame::numbers::split_u32;
+use wasm_frame::leb128::split_u32;
 
 /// The value type with this byte, if there is one.
 fn type_of(byte: u8) -> Option<Ty1>

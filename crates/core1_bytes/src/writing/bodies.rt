@@ -1,24 +1,23 @@
 // The bodies of functions.
 
-ghost use Rattle.std.specs.Prelude.{◌≡◌, ◌+◌, ◌<◌, ◌^◌, [], ◌∷◌, ◌++◌, length as list_length, OnOk, IfOk, All};
-ghost use Rattle.grammar_kit.specs.Form.{many};
-ghost use Rattle.core1_bytes.specs.Bodies.{local_group, locals_of, body};
-ghost use Rattle.core1_bytes.specs.Appends.{AppendsBy, Texts, declared, IsTypedCode, IsWrittenBody};
+ghost use Rattle.std.specs.Prelude.{◌≡◌, ◌+◌, ◌<◌, ◌^◌, [], ◌∷◌, ◌++◌, length as list_length, OnOk, IfOk};
+ghost use Rattle.core1_bytes.specs.Bodies.{locals_of, body};
+ghost use Rattle.core1_bytes.specs.Appends.{declared, IsWrittenBody};
 
 use super::code::write_expr;
-use super::written::{Written, write_length, write_vector};
+use super::entry::{WriteEntry, write_bytes, write_u32, write_vector};
+use super::types::write_value_type;
 use crate::body::LocalGroup1;
+use crate::reading::{BodyEntry, GroupEntry};
 use core1_ast::module::{Body1, Ty1};
 use num_core::lists::Bytes;
 use sqlite_items::Items;
 use std::alloc::{AllocError, Global};
 
-impl Written for LocalGroup1 {
-    ghost form = { local_group };
-
-    fn write(&self, out: &mut Bytes) -> Result<(), AllocError> {
-        self.count.write(out)?;
-        self.ty.write(out)
+impl WriteEntry for GroupEntry {
+    fn write(_alloc: Global, out: &mut Bytes, entry: &LocalGroup1) -> Result<(), AllocError> {
+        write_u32(out, entry.count)?;
+        write_value_type(out, entry.ty)
     }
 }
 
@@ -79,18 +78,16 @@ fn body_text(alloc: Global, source: &Body1) -> Result<Bytes, AllocError>
 {
     let groups = local_groups(alloc, source.locals.as_slice())?;
     let mut text = Bytes::new(alloc);
-    write_vector(&mut text, groups.as_slice())?;
-    write_expr(&mut text, &source.code)?;
+    write_vector::<GroupEntry>(alloc, &mut text, groups.as_slice())?;
+    write_expr(alloc, &mut text, &source.code)?;
     Ok(text)
 }
 
-/// Appends the text of each body, behind the count of its bytes.
-pub fn write_bodies(alloc: Global, out: &mut Bytes, bodies: &[Body1]) -> Result<(), AllocError>
-    requires { All IsWrittenBody bodies.now }
-    ensures { OnOk result (AppendsBy (λ b. Texts b bodies.now) out.old out.new) }
-{
-    for body in bodies {
-        body_text(alloc, body)?.write(out)?;
+impl WriteEntry for BodyEntry {
+    ghost is_written = { IsWrittenBody };
+
+    fn write(alloc: Global, out: &mut Bytes, entry: &Body1) -> Result<(), AllocError> {
+        let text = body_text(alloc, entry)?;
+        write_bytes(out, text.as_slice())
     }
-    Ok(())
 }

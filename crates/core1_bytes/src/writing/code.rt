@@ -5,18 +5,19 @@ ghost use Rattle.core1_ast.specs.declared.module.code.Instr1.TheVariants.{Pure};
 ghost use Rattle.nested_code.specs.declared.token.Token.TheVariants.{Open, Plain};
 ghost use Rattle.wasm_frame.specs.Leb128.{s32, s64};
 ghost use Rattle.core1_bytes.specs.Bodies.{expr};
-ghost use Rattle.core1_bytes.specs.Instructions.{token, mem_arg};
-ghost use Rattle.core1_bytes.specs.Opcodes.{IsPlain, block_type_of};
-ghost use Rattle.core1_bytes.specs.Appends.{AppendsBy, Appends, Both, Constant, Immediates, AppendsInstr, AppendsCode, IsTypedInstr, IsTypedCode};
+ghost use Rattle.core1_bytes.specs.Instructions.{mem_arg};
+ghost use Rattle.core1_bytes.specs.Tokens.{token};
+ghost use Rattle.core1_bytes.specs.Appends.{AppendsBy, Appends, IsPlain, block_type_of, Constant, Immediates, AppendsInstr, AppendsCode, IsTypedInstr, IsTypedCode};
 
-use super::opcodes::{head_code, opcode};
+use super::entry::{write_byte, write_u32, write_vector};
+use super::opcodes::{head_opcode, opcode};
 use super::types::write_block_type;
-use super::written::{Written, write_byte, write_vector};
 use crate::head::Head1;
+use crate::reading::IndexEntry;
 use core1_ast::module::{BlockType1, Code1, Instr1, MemArg1, Op1};
 use num_core::lists::Bytes;
-use std::alloc::AllocError;
-use wasm_frame::numbers::{put_s32, put_s64};
+use std::alloc::{AllocError, Global};
+use wasm_frame::leb128::{put_s32, put_s64};
 
 /// The byte between the two arms of an if.
 const ELSE: u8 = 0x05;
@@ -25,54 +26,54 @@ const ELSE: u8 = 0x05;
 const END: u8 = 0x0B;
 
 /// Appends an expression: code and the byte that closes it.
-pub fn write_expr(out: &mut Bytes, code: &Code1) -> Result<(), AllocError>
+pub fn write_expr(alloc: Global, out: &mut Bytes, code: &Code1) -> Result<(), AllocError>
     requires { IsTypedCode code.now }
     ensures { OnOk result (Appends expr out.old out.new code.now) }
 {
-    write_code(code, out)?;
+    write_code(alloc, out, code)?;
     write_byte(out, END)
 }
 
 /// Appends code, instruction by instruction. The recursion goes as deep as the code is nested.
 #[cycle(writes)]
-fn write_code(code: &Code1, out: &mut Bytes) -> Result<(), AllocError>
+fn write_code(alloc: Global, out: &mut Bytes, code: &Code1) -> Result<(), AllocError>
     requires { IsTypedCode code.now }
     ensures { OnOk result (AppendsCode out.old out.new code.now) }
 {
     for instr in code.as_slice() {
-        write_instr(instr, out)?;
+        write_instr(alloc, out, instr)?;
     }
     Ok(())
 }
 
 #[cycle(writes)]
 #[tactic(auto, using(crate::proofs::Typed::inside_typed))]
-fn write_instr(instr: &Instr1, out: &mut Bytes) -> Result<(), AllocError>
+fn write_instr(alloc: Global, out: &mut Bytes, instr: &Instr1) -> Result<(), AllocError>
     requires { IsTypedInstr instr.now }
     ensures { OnOk result (AppendsInstr out.old out.new instr.now) }
 {
     match instr {
         Instr1::Block(ty, code) => {
             write_head(out, Head1::Block(*ty))?;
-            write_code(code, out)?;
+            write_code(alloc, out, code)?;
             write_byte(out, END)
         }
         Instr1::Loop(ty, code) => {
             write_head(out, Head1::Loop(*ty))?;
-            write_code(code, out)?;
+            write_code(alloc, out, code)?;
             write_byte(out, END)
         }
         Instr1::If(ty, first, second) => {
             write_head(out, Head1::If(*ty))?;
-            write_code(first, out)?;
+            write_code(alloc, out, first)?;
             if second.is_empty() {
                 return write_byte(out, END);
             }
             write_byte(out, ELSE)?;
-            write_code(second, out)?;
+            write_code(alloc, out, second)?;
             write_byte(out, END)
         }
-        _ => write_plain(out, instr),
+        _ => write_plain(alloc, out, instr),
     }
 }
 
@@ -80,7 +81,7 @@ fn write_instr(instr: &Instr1, out: &mut Bytes) -> Result<(), AllocError>
 fn write_head(out: &mut Bytes, head: Head1) -> Result<(), AllocError>
     ensures { OnOk result (Appends token out.old out.new (Open head)) }
 {
-    write_byte(out, head_code(head))?;
+    write_byte(out, head_opcode(head))?;
     write_block_type(out, block_type_of(head))
 }
 
@@ -94,38 +95,38 @@ fn block_type_of(head: Head1) -> BlockType1
 }
 
 /// Appends an instruction that holds no code.
-fn write_plain(out: &mut Bytes, instr: &Instr1) -> Result<(), AllocError>
+fn write_plain(alloc: Global, out: &mut Bytes, instr: &Instr1) -> Result<(), AllocError>
     requires { IsPlain instr.now }
     ensures { OnOk result (Appends token out.old out.new (Plain instr.now)) }
 {
     write_byte(out, opcode(instr))?;
-    write_immediates(out, instr)
+    write_immediates(alloc, out, instr)
 }
 
 /// Appends what follows the opcode of an instruction that holds no code.
-fn write_immediates(out: &mut Bytes, instr: &Instr1) -> Result<(), AllocError>
+fn write_immediates(alloc: Global, out: &mut Bytes, instr: &Instr1) -> Result<(), AllocError>
     requires { IsPlain instr.now }
     ensures { OnOk result (AppendsBy (Immediates instr.now) out.old out.new) }
 {
     match instr {
-        Instr1::Br(index) => index.write(out),
-        Instr1::BrIf(index) => index.write(out),
-        Instr1::Call(index) => index.write(out),
-        Instr1::LocalGet(index) => index.write(out),
-        Instr1::LocalSet(index) => index.write(out),
-        Instr1::LocalTee(index) => index.write(out),
-        Instr1::GlobalGet(index) => index.write(out),
-        Instr1::GlobalSet(index) => index.write(out),
+        Instr1::Br(index) => write_u32(out, *index),
+        Instr1::BrIf(index) => write_u32(out, *index),
+        Instr1::Call(index) => write_u32(out, *index),
+        Instr1::LocalGet(index) => write_u32(out, *index),
+        Instr1::LocalSet(index) => write_u32(out, *index),
+        Instr1::LocalTee(index) => write_u32(out, *index),
+        Instr1::GlobalGet(index) => write_u32(out, *index),
+        Instr1::GlobalSet(index) => write_u32(out, *index),
         Instr1::BrTable(labels, last) => {
-            write_vector(out, labels.as_slice())?;
-            last.write(out)
+            write_vector::<IndexEntry>(alloc, out, labels.as_slice())?;
+            write_u32(out, *last)
         }
         Instr1::CallIndirect(ty) => {
-            ty.write(out)?;
+            write_u32(out, *ty)?;
             write_byte(out, 0x00)
         }
-        Instr1::Load(_, at) => at.write(out),
-        Instr1::Store(_, at) => at.write(out),
+        Instr1::Load(_, at) => write_mem_arg(out, *at),
+        Instr1::Store(_, at) => write_mem_arg(out, *at),
         Instr1::MemorySize => write_byte(out, 0x00),
         Instr1::MemoryGrow => write_byte(out, 0x00),
         Instr1::Pure(op) => write_constant(out, *op),
@@ -158,11 +159,10 @@ fn write_i64(out: &mut Bytes, bits: u64) -> Result<(), AllocError>
     put_s64(out, bits.cast_signed())
 }
 
-impl Written for MemArg1 {
-    ghost form = { mem_arg };
-
-    fn write(&self, out: &mut Bytes) -> Result<(), AllocError> {
-        self.align.write(out)?;
-        self.offset.write(out)
-    }
+/// Appends a memory argument.
+fn write_mem_arg(out: &mut Bytes, at: MemArg1) -> Result<(), AllocError>
+    ensures { OnOk result (Appends mem_arg out.old out.new at) }
+{
+    write_u32(out, at.align)?;
+    write_u32(out, at.offset)
 }

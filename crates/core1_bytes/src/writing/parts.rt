@@ -1,35 +1,26 @@
 // The parts of a module, each by the form of its section's entries.
 
-ghost use Rattle.std.specs.Prelude.{◌≡◌, ◌<◌, length, OnOk, IsUtf8};
-ghost use Rattle.wasm_frame.specs.Name.{name, byte_vector};
-ghost use Rattle.core1_bytes.specs.Opcodes.{export_kind, export_index};
-ghost use Rattle.core1_bytes.specs.Parts.{import_desc, import, global, export_desc, export, element, segment};
-ghost use Rattle.core1_bytes.specs.Appends.{Appends, IsTypedCode};
+ghost use Rattle.std.specs.Prelude.{◌≡◌, OnOk, IsUtf8};
+ghost use Rattle.wasm_frame.specs.Name.{name};
+ghost use Rattle.core1_bytes.specs.Parts.{import_desc, export_desc};
+ghost use Rattle.core1_bytes.specs.Appends.{Appends, Exports, export_index, IsTypedCode};
 
 use super::code::write_expr;
+use super::entry::{WriteEntry, write_byte, write_bytes, write_u32, write_vector};
 use super::types::{write_global_type, write_limits, write_table_type};
-use super::written::{Written, write_byte, write_length, write_vector};
+use crate::reading::{
+    ElementEntry, ExportEntry, GlobalEntry, ImportEntry, IndexEntry, SegmentEntry,
+};
 use core1_ast::module::{Element1, Export1, ExportDesc1, Global1, Import1, ImportDesc1, Segment1};
 use num_core::lists::Bytes;
-use std::alloc::AllocError;
+use std::alloc::{AllocError, Global};
 
 /// Appends a name: the count of its bytes in UTF-8, and the bytes.
 fn write_name(out: &mut Bytes, text: &str) -> Result<(), AllocError>
     requires { IsUtf8 text.now }
     ensures { OnOk result (Appends name out.old out.new text.now) }
 {
-    write_length(out, text.len())?;
-    out.extend_from_slice(text.as_bytes())
-}
-
-impl Written for Bytes {
-    ghost form = { byte_vector };
-
-    fn write(&self, out: &mut Bytes) -> Result<(), AllocError> {
-        let bytes = self.as_slice();
-        write_length(out, bytes.len())?;
-        out.extend_from_slice(bytes)
-    }
+    write_bytes(out, text.as_bytes())
 }
 
 /// Appends what is imported.
@@ -39,7 +30,7 @@ fn write_import_desc(out: &mut Bytes, desc: ImportDesc1) -> Result<(), AllocErro
     match desc {
         ImportDesc1::Func(index) => {
             write_byte(out, 0x00)?;
-            index.write(out)
+            write_u32(out, index)
         }
         ImportDesc1::Table(table) => {
             write_byte(out, 0x01)?;
@@ -56,30 +47,27 @@ fn write_import_desc(out: &mut Bytes, desc: ImportDesc1) -> Result<(), AllocErro
     }
 }
 
-impl Written for Import1 {
-    ghost form = { import };
-
-    fn write(&self, out: &mut Bytes) -> Result<(), AllocError> {
-        write_name(out, self.module.as_str())?;
-        write_name(out, self.name.as_str())?;
-        write_import_desc(out, self.desc)
+impl WriteEntry for ImportEntry {
+    fn write(_alloc: Global, out: &mut Bytes, entry: &Import1) -> Result<(), AllocError> {
+        write_name(out, entry.module.as_str())?;
+        write_name(out, entry.name.as_str())?;
+        write_import_desc(out, entry.desc)
     }
 }
 
-impl Written for Global1 {
-    ghost form = { global };
-
+impl WriteEntry for GlobalEntry {
     ghost is_written = { λ g. IsTypedCode g.init };
 
-    fn write(&self, out: &mut Bytes) -> Result<(), AllocError> {
-        write_global_type(out, self.ty, self.mutable)?;
-        write_expr(out, &self.init)
+    fn write(alloc: Global, out: &mut Bytes, entry: &Global1) -> Result<(), AllocError> {
+        write_global_type(out, entry.ty, entry.mutable)?;
+        write_expr(alloc, out, &entry.init)
     }
 }
 
 /// The byte of the kind that is exported.
+#[tactic(auto, using(crate::proofs::Written::export_rules))]
 fn export_kind(desc: ExportDesc1) -> u8
-    ensures { result ≡ export_kind desc }
+    ensures { Exports desc result }
 {
     match desc {
         ExportDesc1::Func(_) => 0x00,
@@ -106,38 +94,32 @@ fn write_export_desc(out: &mut Bytes, desc: ExportDesc1) -> Result<(), AllocErro
     ensures { OnOk result (Appends export_desc out.old out.new desc) }
 {
     write_byte(out, export_kind(desc))?;
-    export_index(desc).write(out)
+    write_u32(out, export_index(desc))
 }
 
-impl Written for Export1 {
-    ghost form = { export };
-
-    fn write(&self, out: &mut Bytes) -> Result<(), AllocError> {
-        write_name(out, self.name.as_str())?;
-        write_export_desc(out, self.desc)
+impl WriteEntry for ExportEntry {
+    fn write(_alloc: Global, out: &mut Bytes, entry: &Export1) -> Result<(), AllocError> {
+        write_name(out, entry.name.as_str())?;
+        write_export_desc(out, entry.desc)
     }
 }
 
-impl Written for Element1 {
-    ghost form = { element };
-
+impl WriteEntry for ElementEntry {
     ghost is_written = { λ e. IsTypedCode e.offset };
 
-    fn write(&self, out: &mut Bytes) -> Result<(), AllocError> {
-        self.table.write(out)?;
-        write_expr(out, &self.offset)?;
-        write_vector(out, self.items.as_slice())
+    fn write(alloc: Global, out: &mut Bytes, entry: &Element1) -> Result<(), AllocError> {
+        write_u32(out, entry.table)?;
+        write_expr(alloc, out, &entry.offset)?;
+        write_vector::<IndexEntry>(alloc, out, entry.items.as_slice())
     }
 }
 
-impl Written for Segment1 {
-    ghost form = { segment };
-
+impl WriteEntry for SegmentEntry {
     ghost is_written = { λ s. IsTypedCode s.offset };
 
-    fn write(&self, out: &mut Bytes) -> Result<(), AllocError> {
-        self.memory.write(out)?;
-        write_expr(out, &self.offset)?;
-        self.bytes.write(out)
+    fn write(alloc: Global, out: &mut Bytes, entry: &Segment1) -> Result<(), AllocError> {
+        write_u32(out, entry.memory)?;
+        write_expr(alloc, out, &entry.offset)?;
+        write_bytes(out, entry.bytes.as_slice())
     }
 }

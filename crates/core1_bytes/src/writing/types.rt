@@ -2,19 +2,25 @@
 
 ghost use Rattle.std.specs.Prelude.{OnOk};
 ghost use Rattle.core1_bytes.specs.Appends.{Appends};
-ghost use Rattle.core1_bytes.specs.Types.{value_type, block_type, func_type, limits, table_type, mutability, global_type};
+ghost use Rattle.core1_bytes.specs.Types.{value_type, block_type, limits, table_type, mutability, global_type};
 
+use super::entry::{WriteEntry, write_byte, write_u32, write_vector};
 use super::opcodes::type_byte;
-use super::written::{Written, write_byte, write_vector};
+use crate::reading::{MemoryEntry, TableEntry, TypeEntry, ValueTypeEntry};
 use core1_ast::module::{BlockType1, FuncType1, Limits1, Ty1};
 use num_core::lists::Bytes;
-use std::alloc::AllocError;
+use std::alloc::{AllocError, Global};
 
-impl Written for Ty1 {
-    ghost form = { value_type };
+/// Appends a value type.
+pub fn write_value_type(out: &mut Bytes, ty: Ty1) -> Result<(), AllocError>
+    ensures { OnOk result (Appends value_type out.old out.new ty) }
+{
+    write_byte(out, type_byte(ty))
+}
 
-    fn write(&self, out: &mut Bytes) -> Result<(), AllocError> {
-        write_byte(out, type_byte(*self))
+impl WriteEntry for ValueTypeEntry {
+    fn write(_alloc: Global, out: &mut Bytes, entry: &Ty1) -> Result<(), AllocError> {
+        write_value_type(out, *entry)
     }
 }
 
@@ -28,13 +34,11 @@ pub fn write_block_type(out: &mut Bytes, ty: BlockType1) -> Result<(), AllocErro
     }
 }
 
-impl Written for FuncType1 {
-    ghost form = { func_type };
-
-    fn write(&self, out: &mut Bytes) -> Result<(), AllocError> {
+impl WriteEntry for TypeEntry {
+    fn write(alloc: Global, out: &mut Bytes, entry: &FuncType1) -> Result<(), AllocError> {
         write_byte(out, 0x60)?;
-        write_vector(out, self.params.as_slice())?;
-        write_vector(out, self.results.as_slice())
+        write_vector::<ValueTypeEntry>(alloc, out, entry.params.as_slice())?;
+        write_vector::<ValueTypeEntry>(alloc, out, entry.results.as_slice())
     }
 }
 
@@ -45,21 +49,19 @@ pub fn write_limits(out: &mut Bytes, size: Limits1) -> Result<(), AllocError>
     match size.max {
         None => {
             write_byte(out, 0x00)?;
-            size.min.write(out)
+            write_u32(out, size.min)
         }
         Some(max) => {
             write_byte(out, 0x01)?;
-            size.min.write(out)?;
-            max.write(out)
+            write_u32(out, size.min)?;
+            write_u32(out, max)
         }
     }
 }
 
-impl Written for Limits1 {
-    ghost form = { limits };
-
-    fn write(&self, out: &mut Bytes) -> Result<(), AllocError> {
-        write_limits(out, *self)
+impl WriteEntry for MemoryEntry {
+    fn write(_alloc: Global, out: &mut Bytes, entry: &Limits1) -> Result<(), AllocError> {
+        write_limits(out, *entry)
     }
 }
 
@@ -71,11 +73,17 @@ pub fn write_table_type(out: &mut Bytes, table: Limits1) -> Result<(), AllocErro
     write_limits(out, table)
 }
 
+impl WriteEntry for TableEntry {
+    fn write(_alloc: Global, out: &mut Bytes, entry: &Limits1) -> Result<(), AllocError> {
+        write_table_type(out, *entry)
+    }
+}
+
 /// Appends the type of a global, and whether it is mutable.
 pub fn write_global_type(out: &mut Bytes, ty: Ty1, mutable: bool) -> Result<(), AllocError>
     ensures { OnOk result (Appends global_type out.old out.new (record { type = ty; mutable = mutable })) }
 {
-    ty.write(out)?;
+    write_value_type(out, ty)?;
     write_mutability(out, mutable)
 }
 

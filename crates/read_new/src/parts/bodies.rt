@@ -5,21 +5,20 @@ ghost use Rattle.grammar_kit.specs.Form.{vector};
 ghost use Rattle.grammar_kit.specs.Gives.{Gives};
 ghost use Rattle.grammar_kit.specs.Sequences.{sized, whole};
 ghost use Rattle.wasm_frame.specs.Leb128.{u32};
-ghost use Rattle.wasm_frame.specs.Name.{byte_vector};
 ghost use Rattle.read_new.specs.Bodies.{local_group, locals_count, locals_of, body, sizes_of};
 
 use code_new::code::{measure_expr, read_expr};
-use code_new::types::split_val_type;
+use code_new::types::split_value_type;
 use grammar_kit::{Entry, FormError, Measure, measure_many, read_many};
-use num_core::lists::Bytes;
+use module_reading::BodySizes;
 use std::alloc::{AllocError, Global};
 use wasm_ast::lists::Types;
 use wasm_ast::module::{Body, Ty};
+use wasm_frame::leb128::split_u32;
 use wasm_frame::names::split_byte_vector;
-use wasm_frame::numbers::split_u32;
 
 /// Locals of one type ("Code Section" of the standard).
-#[derive(Clone, Copy, Debug, PartialEq, Eq)]
+#[derive(Clone, Copy)]
 pub struct LocalGroup {
     /// How many.
     pub count: u32,
@@ -38,7 +37,7 @@ impl Entry for GroupEntry {
     #[tactic(auto, unfolding(crate::specs::Bodies::local_group))]
     fn entry(_alloc: Global, bytes: &[u8]) -> Result<(LocalGroup, &[u8]), FormError> {
         let (count, rest) = split_u32(bytes).ok_or(FormError::Malformed)?;
-        let (ty, rest) = split_val_type(rest).ok_or(FormError::Malformed)?;
+        let (ty, rest) = split_value_type(rest).ok_or(FormError::Malformed)?;
         Ok((LocalGroup { count, ty }, rest))
     }
 }
@@ -57,17 +56,6 @@ impl Measure for GroupMeasure {
         let (group, rest) = GroupEntry::entry(alloc, bytes)?;
         Ok((group.count, rest))
     }
-}
-
-/// How large a body is.
-#[derive(Clone, Copy, Debug, PartialEq, Eq)]
-pub struct BodySizes {
-    /// How many locals it declares.
-    pub locals: u64,
-    /// How deeply instructions nest in it.
-    pub nesting: u32,
-    /// Whether an instruction of it names a data segment.
-    pub names_data: bool,
 }
 
 /// How large the body is that all of the bytes spell. Neither locals nor instructions are kept.
@@ -142,22 +130,6 @@ fn read_body(alloc: Global, text: &[u8]) -> Result<Body, FormError>
     }
     let locals = locals_of(alloc, groups.as_slice())?;
     Ok(Body { locals, code })
-}
-
-/// The text of a body behind its size, which is not looked into: of size 0.
-pub struct TextMeasure;
-
-impl Measure for TextMeasure {
-    type Value = Bytes;
-
-    ghost form = { byte_vector };
-
-    ghost size = { λ text. 0 };
-
-    fn measure(_alloc: Global, bytes: &[u8]) -> Result<(u32, &[u8]), FormError> {
-        let (_, rest) = split_byte_vector(bytes).ok_or(FormError::Malformed)?;
-        Ok((0, rest))
-    }
 }
 
 /// An entry of the code section: a body behind its size.

@@ -5,8 +5,8 @@ use grammar_kit::{Entry, FormError, read_byte};
 use num_core::lists::Text;
 use std::alloc::Global;
 use wasm_ast::module::{Export, ExportDesc};
+use wasm_frame::leb128::split_u32;
 use wasm_frame::names::split_name;
-use wasm_frame::numbers::split_u32;
 
 /// What an export names, and the bytes after it.
 #[tactic(auto, unfolding(crate::specs::Parts::export_desc))]

@@ -2,7 +2,7 @@ ghost use Rattle.wasm_frame.specs.Leb128.{u32};
 
 use grammar_kit::{Entry, FormError};
 use std::alloc::Global;
-use wasm_frame::numbers::split_u32;
+use wasm_frame::leb128::split_u32;
 
 /// An entry of the function section: the type index of a function.
 pub struct FuncEntry;

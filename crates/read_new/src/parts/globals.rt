@@ -5,7 +5,7 @@ ghost use Rattle.read_new.specs.Types.{mutability};
 ghost use Rattle.read_new.specs.Parts.{global};
 
 use code_new::code::{measure_expr, read_expr};
-use code_new::types::split_val_type;
+use code_new::types::split_value_type;
 use grammar_kit::{Entry, FormError, Measure, read_byte};
 use std::alloc;
 use wasm_ast::module::Global;
@@ -32,7 +32,7 @@ impl Entry for GlobalEntry {
 
     #[tactic(auto, unfolding(crate::specs::Parts::global))]
     fn entry(alloc: alloc::Global, bytes: &[u8]) -> Result<(Global, &[u8]), FormError> {
-        let (ty, rest) = split_val_type(bytes).ok_or(FormError::Malformed)?;
+        let (ty, rest) = split_value_type(bytes).ok_or(FormError::Malformed)?;
         let (mutable, rest) = split_mutability(rest).ok_or(FormError::Malformed)?;
         let (init, rest) = read_expr(alloc, rest)?;
         Ok((Global { ty, mutable, init }, rest))
@@ -51,7 +51,7 @@ impl Measure for GlobalMeasure {
 
     #[tactic(auto, unfolding(crate::specs::Parts::global))]
     fn measure(alloc: alloc::Global, bytes: &[u8]) -> Result<(u32, &[u8]), FormError> {
-        let (_, rest) = split_val_type(bytes).ok_or(FormError::Malformed)?;
+        let (_, rest) = split_value_type(bytes).ok_or(FormError::Malformed)?;
         let (_, rest) = split_mutability(rest).ok_or(FormError::Malformed)?;
         let (sizes, rest) = measure_expr(alloc, rest)?;
         Ok((sizes.nesting, rest))

@@ -6,13 +6,13 @@ ghost use Rattle.read_new.specs.Parts.{imported_table, imported_global, import_d
 
 use super::globals::split_mutability;
 use super::tables::{split_limits, split_tag};
-use code_new::types::{split_ref_type, split_val_type};
+use code_new::types::{split_ref_type, split_value_type};
 use grammar_kit::{Entry, FormError, Measure, read_byte};
 use num_core::lists::Text;
 use std::alloc::Global;
 use wasm_ast::module::{Import, ImportDesc};
+use wasm_frame::leb128::split_u32;
 use wasm_frame::names::split_name;
-use wasm_frame::numbers::split_u32;
 
 /// A table type, as what an import asks for, and the bytes after it.
 #[tactic(auto, unfolding(crate::specs::Parts::imported_table))]
@@ -29,7 +29,7 @@ fn split_table(bytes: &[u8]) -> Option<(ImportDesc, &[u8])>
 fn split_global(bytes: &[u8]) -> Option<(ImportDesc, &[u8])>
     ensures { GivesOption (λ p. (p.0, p.1.now)) result (imported_global.read bytes.now) }
 {
-    let (ty, rest) = split_val_type(bytes)?;
+    let (ty, rest) = split_value_type(bytes)?;
     let (mutable, rest) = split_mutability(rest)?;
     Some((ImportDesc::Global(ty, mutable), rest))
 }

@@ -14,8 +14,8 @@ use num_core::lists::Bytes;
 use sqlite_items::Items;
 use std::alloc::Global;
 use wasm_ast::module::{Code, Element, Instr, Mode, Op, Segment, Ty};
+use wasm_frame::leb128::split_u32;
 use wasm_frame::names::split_byte_vector;
-use wasm_frame::numbers::split_u32;
 
 /// A function index as an entry: the expression that refers to the function.
 struct IndexEntry;

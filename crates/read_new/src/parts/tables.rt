@@ -10,7 +10,7 @@ use code_new::types::{ref_type_at, split_ref_type};
 use grammar_kit::{Entry, FormError, Measure, read_byte};
 use std::alloc::Global;
 use wasm_ast::module::{Limits, Table};
-use wasm_frame::numbers::{split_u32, split_u64};
+use wasm_frame::leb128::{split_u32, split_u64};
 
 /// Limits of a least size alone, and the bytes after them.
 #[tactic(auto, unfolding(crate::specs::Types::from_min))]

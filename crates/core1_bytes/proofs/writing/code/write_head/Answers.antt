@@ -1,5 +1,4 @@
 use Rattle.std.proofs.Common.{subst}
-use Rattle.grammar_kit.specs.Form.{byte}
 use Rattle.core1_bytes.specs.Types.{block_type}
 use Rattle.core1_bytes.specs.Appends.{Appends}
 use Rattle.core1_bytes.proofs.Appending.{on_ok}
@@ -9,5 +8,5 @@ use Rattle.core1_bytes.proofs.writing.code.write_head.Goals as goal
 pub returns : goal.returns
 returns c = on_ok c.write_block_type.result c.write_block_type.ensures (λ p.
     head_appends c.args.out.now c.write_byte.new.out c.write_block_type.new.out c.args.head
-    (subst (λ k. Appends byte c.args.out.now c.write_byte.new.out k) c.head_code.ensures c.in_ok-write_byte.ensures)
+    c.head_opcode.result c.head_opcode.ensures c.in_ok-write_byte.ensures
     (subst (λ t. Appends block_type c.write_byte.new.out c.write_block_type.new.out t) c.block_type_of.ensures p))

@@ -3,8 +3,8 @@ use Rattle.core1_bytes.proofs.Written.{import_func, import_table, import_memory,
 use Rattle.core1_bytes.proofs.writing.parts.write_import_desc.Goals as goal
 
 pub returns-in_ok-write_byte-in-Func : goal.returns-in_ok-write_byte-in-Func
-returns-in_ok-write_byte-in-Func c = rw c.in-Func.is (on_ok c.write.result c.write.ensures
-    (import_func c.args.out.now c.write_byte.new.out c.write.new.out c.in-Func.index c.in_ok-write_byte-in-Func.ensures))
+returns-in_ok-write_byte-in-Func c = rw c.in-Func.is (on_ok c.write_u32.result c.write_u32.ensures
+    (import_func c.args.out.now c.write_byte.new.out c.write_u32.new.out c.in-Func.index c.in_ok-write_byte-in-Func.ensures))
 
 pub returns-in_ok-write_byte-in-Table : goal.returns-in_ok-write_byte-in-Table
 returns-in_ok-write_byte-in-Table c = rw c.in-Table.is (on_ok c.write_table_type.result c.write_table_type.ensures

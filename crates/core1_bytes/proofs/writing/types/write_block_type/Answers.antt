@@ -1,8 +1,5 @@
 use Rattle.core1_bytes.proofs.Appending.{on_ok}
 use Rattle.core1_bytes.proofs.Nested.{empty_appends, one_appends}
-use Rattle.std.proofs.Common.{subst}
-use Rattle.grammar_kit.specs.Form.{byte}
-use Rattle.core1_bytes.specs.Appends.{Appends}
 use Rattle.core1_bytes.proofs.writing.types.write_block_type.Goals as goal
 
 pub returns-in-Empty : goal.returns-in-Empty
@@ -10,4 +7,4 @@ returns-in-Empty c = rw c.in-Empty.is (on_ok c.write_byte.result c.write_byte.en
 
 pub returns-in-One : goal.returns-in-One
 returns-in-One c = rw c.in-One.is (on_ok c.write_byte-in-One.result c.write_byte-in-One.ensures (λ p.
-    one_appends c.args.out.now c.write_byte-in-One.new.out c.in-One.ty (subst (λ k. Appends byte c.args.out.now c.write_byte-in-One.new.out k) c.type_byte.ensures p)))
+    one_appends c.args.out.now c.write_byte-in-One.new.out c.in-One.ty c.type_byte.result c.type_byte.ensures p))

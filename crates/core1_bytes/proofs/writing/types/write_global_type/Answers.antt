@@ -4,4 +4,4 @@ use Rattle.core1_bytes.proofs.writing.types.write_global_type.Goals as goal
 
 pub returns : goal.returns
 returns c = on_ok c.write_mutability.result c.write_mutability.ensures
-    (global_type_appends c.args.out.now c.write.new.out c.write_mutability.new.out c.args.ty c.args.mutable c.in_ok-write.ensures)
+    (global_type_appends c.args.out.now c.write_value_type.new.out c.write_mutability.new.out c.args.ty c.args.mutable c.in_ok-write_value_type.ensures)

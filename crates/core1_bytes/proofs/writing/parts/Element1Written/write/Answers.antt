@@ -1,7 +1,0 @@
-use Rattle.core1_bytes.proofs.Appending.{on_ok}
-use Rattle.core1_bytes.proofs.Written.{element_appends}
-use Rattle.core1_bytes.proofs.writing.parts.Element1Written.write.Goals as goal
-
-pub returns : goal.returns
-returns c = on_ok c.write_vector.result c.write_vector.ensures
-    (element_appends c.args.out.now c.write.new.out c.write_expr.new.out c.write_vector.new.out c.args.self.now c.as_slice.result.now c.as_slice.ensures c.in_ok-write.ensures c.in_ok-write_expr.ensures)

@@ -1,7 +1,0 @@
-use Rattle.core1_bytes.proofs.Appending.{on_ok}
-use Rattle.core1_bytes.proofs.Written.{segment_appends}
-use Rattle.core1_bytes.proofs.writing.parts.Segment1Written.write.Goals as goal
-
-pub returns : goal.returns
-returns c = on_ok c.write-2.result c.write-2.ensures
-    (segment_appends c.args.out.now c.write.new.out c.write_expr.new.out c.write-2.new.out c.args.self.now c.in_ok-write.ensures c.in_ok-write_expr.ensures)

@@ -1,9 +1,0 @@
--- What a fault of the frame is to a reader of modules.
-use Rattle.wasm_frame.specs.declared.sections.FrameFault.{FrameFault}
-use Rattle.wasm_frame.specs.declared.sections.FrameFault.TheVariants as frame
-use Rattle.core1_bytes.specs.declared.fault.ReadFault.{ReadFault}
-use Rattle.core1_bytes.specs.declared.fault.ReadFault.TheVariants.{Frame, Memory}
-
-abbrev pub of_frame : FrameFault → ReadFault
-of_frame (frame.Memory e) = Memory e
-of_frame fault = Frame fault

@@ -1,0 +1,12 @@
+pub mod Bodies
+pub mod Files
+pub mod Format
+pub mod Limits
+pub mod Means
+pub mod Numbers
+pub mod Reads
+pub mod Sizes
+pub mod Spells
+pub mod Steps
+pub mod Texts
+pub mod Walked

@@ -1,5 +1,0 @@
-use Rattle.wasm_frame.proofs.TwosComplement.{bits_apart}
-use Rattle.wasm_frame.proofs.numbers.laws.bits_tell_numbers_apart.Goals as goal
-
-pub returns : goal.returns
-returns c = bits_apart
