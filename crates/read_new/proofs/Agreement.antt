@@ -5,9 +5,10 @@ use Rattle.std.specs.List.{AllByRecursion, list_any}
 use Rattle.wasm_ast.specs.declared.module.code.Body.{Body}
 use Rattle.wasm_ast.specs.declared.module.parts.Module.{Module}
 use Rattle.code_new.specs.Code.{names_data}
-use Rattle.read_new.specs.declared.bodies.BodyExtent.{BodyExtent}
-use Rattle.read_new.specs.Made.{IsExtentOf}
-use Rattle.read_new.specs.Spells.{Agrees}
+use Rattle.module_reading.specs.declared.bodies.BodyExtent.{BodyExtent}
+use Rattle.module_reading.specs.Bodies.{IsExtentOf}
+use Rattle.read_new.specs.Sizes.{means}
+use Rattle.read_new.specs.Spells.{three, Agrees}
 
 abbrev pub NoneNames : List Body → Type 0
 NoneNames codes = AllByRecursion (λ body. ¬ (IsTrue (names_data body.code))) codes
@@ -28,7 +29,7 @@ of_none (body ∷ codes) h = step (names_data body.code) refl (of_none codes h.1
     step true same others = absurd (h.0 same)
     step false same others = others
 
-module _ (m : Module) (e : BodyExtent) (extent : IsExtentOf e m.codes) (funcs segments : ℕ) (data_count : Option ℕ)
+module _ (m : Module) (e : BodyExtent) (extent : IsExtentOf three means e m.codes) (funcs segments : ℕ) (data_count : Option ℕ)
     (funcs_are : funcs ≡ length m.funcs) (segments_are : segments ≡ length m.datas) (data_count_is : data_count ≡ m.data_count) where
   -- the test, in numbers
   abbrev pub Tested : Type 0

@@ -7,3 +7,4 @@ pub mod Imports
 pub mod Measured
 pub mod Owed
 pub mod Told
+pub mod TypeSizes

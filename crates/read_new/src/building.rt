@@ -16,11 +16,7 @@ use wasm_ast::module::Module;
 
 /// The module, of which the function types and the tags are built already.
 #[tactic(auto, unfolding(crate::specs::Made::made))]
-pub fn build(
-    alloc: Global,
-    file: &File<'_>,
-    declared: TypesAndTags,
-) -> Result<Module, AllocError>
+pub fn build(alloc: Global, file: &File<'_>, declared: TypesAndTags) -> Result<Module, AllocError>
     requires { declared ≡ declared_of (made (payloads file.now)) }
     ensures { IfOk result (λ m. m ≡ made (payloads file.now)) }
 {

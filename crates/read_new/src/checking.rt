@@ -25,11 +25,7 @@ pub fn check(alloc: Global, id: u8, payload: &[u8]) -> Result<Option<Sizes>, All
 }
 
 /// Of sections with an id below 7.
-fn check_before_exports(
-    alloc: Global,
-    id: u8,
-    payload: &[u8],
-) -> Result<Option<Sizes>, AllocError>
+fn check_before_exports(alloc: Global, id: u8, payload: &[u8]) -> Result<Option<Sizes>, AllocError>
     requires { id < 7 }
     ensures { IfOk result (λ sizes. MatchOption sizes (¬ (InGrammar id payload.now)) (λ s. InGrammar id payload.now × HasSizes id payload.now s)) }
 {
@@ -45,11 +41,7 @@ fn check_before_exports(
 }
 
 /// Of sections with an id from 7 on.
-fn check_from_exports(
-    alloc: Global,
-    id: u8,
-    payload: &[u8],
-) -> Result<Option<Sizes>, AllocError>
+fn check_from_exports(alloc: Global, id: u8, payload: &[u8]) -> Result<Option<Sizes>, AllocError>
     requires { 7 ≤ id }
     ensures { IfOk result (λ sizes. MatchOption sizes (¬ (InGrammar id payload.now)) (λ s. InGrammar id payload.now × HasSizes id payload.now s)) }
 {

@@ -1,6 +1,6 @@
 ghost use Rattle.std.specs.Prelude.{◌≡◌, ◌≤◌, length, Result};
 ghost use Rattle.wasm_ast.specs.declared.module.parts.Module.{Module};
-ghost use Rattle.wasm_frame.specs.declared.sections.Version.TheVariants.{Three};
+ghost use Rattle.wasm_frame.specs.declared.sections.Version.TheVariants as version;
 ghost use Rattle.module_reading.specs.declared.fault.ReadFault.{ReadFault};
 ghost use Rattle.module_reading.specs.Reads.{UnlessMemory};
 ghost use Rattle.read_new.specs.Reads.{Reads, Tells};
@@ -24,7 +24,7 @@ pub fn read(alloc: Global, b: &[u8]) -> Result<Module, ReadFault>
 
 /// The same of a file whose sections are in place.
 pub fn read_file(alloc: Global, file: &File<'_>) -> Result<Module, ReadFault>
-    requires { file.now.version ≡ Three }
+    requires { file.now.version ≡ version.Three }
     ensures tells { Tells file.now.bytes result }
     ensures only { UnlessMemory result ((other : Result Module ReadFault) → Reads file.now.bytes other → other ≡ result) }
 {
