@@ -12,7 +12,8 @@ use Rattle.core1_ast.specs.declared.module.immediates.MemArg1.{MemArg1}
 use Rattle.core1_ast.specs.declared.module.op.Op1.{Op1}
 use Rattle.core1_ast.specs.declared.module.code.Instr1.{Instr1}
 use Rattle.core1_ast.specs.declared.module.code.Instr1.TheVariants as instrs
-use Rattle.core1_ast.specs.Operands.{op_takes, op_gives, load_type, load_bytes, store_type, store_bytes, block_results}
+use Rattle.core1_ast.specs.Operands.{op_takes, op_gives, load_type, store_type, block_results}
+use Rattle.num_core.specs.Accesses.{load_bytes, store_bytes}
 use Rattle.core1_ast.specs.Lengths.{IsShort}
 use Rattle.core1_ast.specs.Spaces.{GlobalType}
 

@@ -4,9 +4,8 @@ use Rattle.std.specs.Prelude.{ℕ, List, [], ◌∷◌}
 use Rattle.num_core.specs.declared.operators.Width.{Width}
 use Rattle.num_core.specs.declared.operators.Width.TheVariants.{W32, W64}
 use Rattle.num_core.specs.declared.operators.Load.{Load}
-use Rattle.num_core.specs.declared.operators.Load.TheVariants as loads
 use Rattle.num_core.specs.declared.operators.Store.{Store}
-use Rattle.num_core.specs.declared.operators.Store.TheVariants as stores
+use Rattle.num_core.specs.Accesses.{load_width, store_width}
 use Rattle.core1_ast.specs.declared.module.ty.Ty1.{Ty1}
 use Rattle.core1_ast.specs.declared.module.ty.Ty1.TheVariants as types
 use Rattle.core1_ast.specs.declared.module.ty.BlockType1.{BlockType1}
@@ -51,53 +50,12 @@ op_gives (ops.Unary w op) = int_type1 w ∷ []
 op_gives (ops.Binary w op) = int_type1 w ∷ []
 op_gives (ops.Convert op) = conversion op ∷ []
 
--- "Memory Instructions": the type of the value of a load, and how many bytes it reads
+-- "Memory Instructions": the types of the values of a load and of a store
 abbrev pub load_type : Load → Ty1
-load_type loads.I32 = types.I32
-load_type loads.I64 = types.I64
-load_type loads.I32From8S = types.I32
-load_type loads.I32From8U = types.I32
-load_type loads.I32From16S = types.I32
-load_type loads.I32From16U = types.I32
-load_type loads.I64From8S = types.I64
-load_type loads.I64From8U = types.I64
-load_type loads.I64From16S = types.I64
-load_type loads.I64From16U = types.I64
-load_type loads.I64From32S = types.I64
-load_type loads.I64From32U = types.I64
+load_type op = int_type1 (load_width op)
 
-abbrev pub load_bytes : Load → ℕ
-load_bytes loads.I32 = 4
-load_bytes loads.I64 = 8
-load_bytes loads.I32From8S = 1
-load_bytes loads.I32From8U = 1
-load_bytes loads.I32From16S = 2
-load_bytes loads.I32From16U = 2
-load_bytes loads.I64From8S = 1
-load_bytes loads.I64From8U = 1
-load_bytes loads.I64From16S = 2
-load_bytes loads.I64From16U = 2
-load_bytes loads.I64From32S = 4
-load_bytes loads.I64From32U = 4
-
--- the type of the value of a store, and how many bytes it writes
 abbrev pub store_type : Store → Ty1
-store_type stores.I32 = types.I32
-store_type stores.I64 = types.I64
-store_type stores.I32To8 = types.I32
-store_type stores.I32To16 = types.I32
-store_type stores.I64To8 = types.I64
-store_type stores.I64To16 = types.I64
-store_type stores.I64To32 = types.I64
-
-abbrev pub store_bytes : Store → ℕ
-store_bytes stores.I32 = 4
-store_bytes stores.I64 = 8
-store_bytes stores.I32To8 = 1
-store_bytes stores.I32To16 = 2
-store_bytes stores.I64To8 = 1
-store_bytes stores.I64To16 = 2
-store_bytes stores.I64To32 = 4
+store_type op = int_type1 (store_width op)
 
 -- "Control Instructions": the results of a block
 abbrev pub block_results : BlockType1 → List Ty1
