@@ -1,9 +1,11 @@
+// `nested_code`: what stands in expressions, how deeply they nest, and what is none.
+
 ghost use Rattle.std.specs.Prelude.{◌≡◌, ℕ, true, false, cond, nat_lt, ◌==◌};
 ghost use Rattle.nested_code.specs.declared.token.Token.TheVariants.{Plain, Open, Else, End};
-ghost use Rattle.nested_code.specs.declared.tests.Instr.TheVariants.{Letter, Block, Choice};
+ghost use Rattle.bytes_tests.specs.declared.nested.Instr.TheVariants.{Letter, Block, Choice};
 
-use super::*;
 use grammar_kit::{FormError, read_byte};
+use nested_code::{Language, Token, measure_expr, read_expr};
 use sqlite_items::Items;
 use std::alloc::{AllocError, Global};
 use std::test::Fail;
@@ -20,8 +22,8 @@ struct Letters;
 
 impl Language for Letters {
     ghost use Rattle.std.specs.Prelude.{Bool};
-    ghost use Rattle.nested_code.specs.declared.tests.Instr.{out-Instr};
-    ghost use Rattle.nested_code.specs.declared.tests.Instr.TheOpen.{Instr-F};
+    ghost use Rattle.bytes_tests.specs.declared.nested.Instr.{out-Instr};
+    ghost use Rattle.bytes_tests.specs.declared.nested.Instr.TheOpen.{Instr-F};
     ghost use Rattle.grammar_kit.specs.Form.{byte, never, always, when, ◌>>=◌ as followed_by};
 
     type Instr = Instr;
@@ -128,36 +130,52 @@ fn refused() -> [&'static [u8]; 6] {
     ]
 }
 
+/// Whether an expression is read and measured so.
+fn is_right(
+    alloc: Global,
+    bytes: &[u8],
+    (want, depth, marked, left): (&[u8], u32, bool, usize),
+) -> Result<bool, Fail> {
+    let (code, rest) = read_expr::<Letters>(alloc, bytes)?;
+    let mut text = Vec::new(alloc);
+    write_code(code.as_slice(), &mut text)?;
+    let (sizes, after) = measure_expr::<Letters>(alloc, bytes)?;
+    Ok(
+        text.as_slice() == want
+            && rest.len() == left
+            && sizes.nesting == depth
+            && sizes.marked == marked
+            && after.len() == left,
+    )
+}
+
+/// Whether bytes are no expression, for the reader and for the measure.
+fn is_refused(alloc: Global, bytes: &[u8]) -> bool {
+    let read = matches!(
+        read_expr::<Letters>(alloc, bytes),
+        Err(FormError::Malformed)
+    );
+    let measured = matches!(
+        measure_expr::<Letters>(alloc, bytes),
+        Err(FormError::Malformed)
+    );
+    read && measured
+}
+
 #[test]
 fn expressions_are_read_and_measured(rt: HostRuntime) -> Result<(), Fail> {
     for (bytes, want, depth, marked, left) in expressions() {
-        let (code, rest) = read_expr::<Letters>(rt.alloc(), bytes)?;
-        let mut text = Vec::new(rt.alloc());
-        write_code(code.as_slice(), &mut text)?;
-        assert_eq!(rt; text.as_slice(), want);
-        assert_eq!(rt; rest.len(), left);
-        let (sizes, rest) = measure_expr::<Letters>(rt.alloc(), bytes)?;
-        assert_eq!(rt; sizes.nesting, depth);
-        assert_eq!(rt; sizes.marked, marked);
-        assert_eq!(rt; rest.len(), left);
+        assert!(rt; is_right(rt.alloc(), bytes, (want, depth, marked, left))?);
     }
     Ok(())
 }
 
 #[test]
-fn what_is_no_expression_is_refused(rt: HostRuntime) {
+fn what_is_no_expression_is_refused(rt: HostRuntime) -> Result<(), Fail> {
     for bytes in refused() {
-        let read = read_expr::<Letters>(rt.alloc(), bytes);
-        assert!(rt; matches!(read, Err(FormError::Malformed)));
-        let measured = measure_expr::<Letters>(rt.alloc(), bytes);
-        assert!(rt; matches!(measured, Err(FormError::Malformed)));
+        assert!(rt; is_refused(rt.alloc(), bytes));
     }
-}
-
-#[test]
-fn many_open_blocks_are_measured(rt: HostRuntime) -> Result<(), Fail> {
-    let bytes = vec![in rt.alloc(); 0x02u8; 100_000]?;
-    let measured = measure_expr::<Letters>(rt.alloc(), bytes.as_slice());
-    assert!(rt; matches!(measured, Err(FormError::Malformed)));
+    let open = vec![in rt.alloc(); 0x02u8; 100_000]?;
+    assert!(rt; is_refused(rt.alloc(), open.as_slice()));
     Ok(())
 }

@@ -1,8 +1,13 @@
-use crate::leb128::*;
-use crate::sections::{Version, sections};
+// `wasm_frame`: numbers in LEB128, frames and names.
+
 use num_core::lists::Bytes;
 use std::alloc::{AllocError, Global};
 use std::test::Fail;
+use wasm_frame::leb128::{
+    put_s32, put_s33, put_s64, put_u32, put_u64, read_s32, read_s33, read_s64, read_u32, read_u64,
+};
+use wasm_frame::names::{is_custom, split_name};
+use wasm_frame::sections::{FrameFault, HEAD, Version, sections};
 
 #[test]
 fn unsigned_spellings(rt: HostRuntime) {
@@ -19,7 +24,7 @@ fn unsigned_spellings(rt: HostRuntime) {
         (&[], None),
     ];
     for (bytes, answer) in narrow {
-        assert_eq!(rt; read_u32(bytes), answer);
+        assert!(rt; read_u32(bytes) == answer);
     }
     let wide: [(&[u8], Option<(u64, usize)>); 6] = [
         (&[], None),
@@ -41,7 +46,7 @@ fn unsigned_spellings(rt: HostRuntime) {
         ),
     ];
     for (bytes, answer) in wide {
-        assert_eq!(rt; read_u64(bytes), answer);
+        assert!(rt; read_u64(bytes) == answer);
     }
 }
 
@@ -59,7 +64,7 @@ fn signed_spellings(rt: HostRuntime) {
         (&[0x80, 0x80, 0x80, 0x80, 0x08], None),
     ];
     for (bytes, answer) in narrow {
-        assert_eq!(rt; read_s32(bytes), answer);
+        assert!(rt; read_s32(bytes) == answer);
     }
     let middle: [(&[u8], Option<(i64, usize)>); 5] = [
         (&[0x40], Some((-64, 1))),
@@ -69,7 +74,7 @@ fn signed_spellings(rt: HostRuntime) {
         (&[0x80, 0x80, 0x80, 0x80, 0x60], None),
     ];
     for (bytes, answer) in middle {
-        assert_eq!(rt; read_s33(bytes), answer);
+        assert!(rt; read_s33(bytes) == answer);
     }
     let wide: [(&[u8], Option<(i64, usize)>); 4] = [
         (
@@ -90,7 +95,7 @@ fn signed_spellings(rt: HostRuntime) {
         ),
     ];
     for (bytes, answer) in wide {
-        assert_eq!(rt; read_s64(bytes), answer);
+        assert!(rt; read_s64(bytes) == answer);
     }
 }
 
@@ -106,65 +111,85 @@ fn shortest_spellings(rt: HostRuntime) -> Result<(), Fail> {
         0x80, 0x80, 0x80, 0x80, 0x70, 0x80, 0x01, 0xC0, 0x00, 0x80, 0x80, 0x80, 0x80, 0x80, 0x80,
         0x80, 0x80, 0x80, 0x7F, 0xFF, 0xFF, 0xFF, 0xFF, 0xFF, 0xFF, 0xFF, 0xFF, 0xFF, 0x01,
     ];
-    assert_eq!(rt; out.as_slice(), spelled.as_slice());
+    assert!(rt; out.as_slice() == spelled.as_slice());
     Ok(())
 }
 
-/// The number of sections of a file whose bytes after the head are these, or what is wrong with it.
-fn answer(alloc: Global, after_head: &[u8], version: Version) -> Result<String, AllocError> {
-    let mut file = Bytes::from_slice(alloc, b"\0asm\x01\0\0\0")?;
-    file.extend_from_slice(after_head)?;
-    match sections(alloc, file.as_slice(), version) {
-        Ok(found) => format!(in alloc; "{}", found.len()),
-        Err(fault) => fault.to_string(alloc),
+/// What cutting a file into sections comes to.
+#[derive(Clone, Copy, PartialEq, Eq)]
+enum Cut {
+    Sections(usize),
+    BadHead,
+    BadSize,
+    BadOrder,
+}
+
+fn cutting_of(alloc: Global, file: &[u8], version: Version) -> Result<Cut, AllocError> {
+    match sections(alloc, file, version) {
+        Ok(found) => Ok(Cut::Sections(found.len())),
+        Err(FrameFault::BadHead) => Ok(Cut::BadHead),
+        Err(FrameFault::BadSize) => Ok(Cut::BadSize),
+        Err(FrameFault::BadOrder) => Ok(Cut::BadOrder),
+        Err(FrameFault::Memory(error)) => Err(error),
     }
+}
+
+/// Of a file whose bytes after the head are these.
+fn cut_behind_head(alloc: Global, after_head: &[u8], version: Version) -> Result<Cut, AllocError> {
+    let mut file = Bytes::from_slice(alloc, &HEAD)?;
+    file.extend_from_slice(after_head)?;
+    cutting_of(alloc, file.as_slice(), version)
 }
 
 #[test]
 fn frames(rt: HostRuntime) -> Result<(), Fail> {
-    let cases: [(&[u8], Version, &str); 18] = [
-        (&[], Version::One, "0"),
+    let cases: [(&[u8], Version, Cut); 18] = [
+        (&[], Version::One, Cut::Sections(0)),
         // a count of five bytes, and one of six, which is a fault of the payload and not of the frame
-        (&[1, 5, 0x80, 0x80, 0x80, 0x80, 0], Version::Three, "1"),
+        (
+            &[1, 5, 0x80, 0x80, 0x80, 0x80, 0],
+            Version::Three,
+            Cut::Sections(1),
+        ),
         (
             &[1, 6, 0x80, 0x80, 0x80, 0x80, 0x80, 0],
             Version::Three,
-            "1",
+            Cut::Sections(1),
         ),
-        (&[1, 2, 7, 7, 3, 0x80, 0, 11, 1, 9], Version::One, "3"),
-        (&[0, 0, 1, 0, 0, 1, 5, 0, 0], Version::One, "4"),
+        (
+            &[1, 2, 7, 7, 3, 0x80, 0, 11, 1, 9],
+            Version::One,
+            Cut::Sections(3),
+        ),
+        (&[0, 0, 1, 0, 0, 1, 5, 0, 0], Version::One, Cut::Sections(4)),
         (
             &[5, 0, 13, 0, 6, 0, 12, 0, 10, 0, 11, 0],
             Version::Three,
-            "6",
+            Cut::Sections(6),
         ),
-        (&[5, 0, 13, 0], Version::One, "bad order"),
-        (&[9, 0, 12, 0], Version::One, "bad order"),
-        (&[13, 0, 5, 0], Version::Three, "bad order"),
-        (&[10, 0, 12, 0], Version::Three, "bad order"),
-        (&[1, 0, 1, 0], Version::Three, "bad order"),
-        (&[2, 0, 1, 0], Version::Three, "bad order"),
-        (&[14, 0], Version::Three, "bad order"),
-        (&[1], Version::Three, "bad size"),
-        (&[1, 0x80], Version::Three, "bad size"),
-        (&[1, 2, 7], Version::Three, "bad size"),
-        (&[1, 0, 1, 2, 7], Version::Three, "bad size"),
-        (&[2, 0, 1, 0, 1, 9], Version::Three, "bad order"),
+        (&[5, 0, 13, 0], Version::One, Cut::BadOrder),
+        (&[9, 0, 12, 0], Version::One, Cut::BadOrder),
+        (&[13, 0, 5, 0], Version::Three, Cut::BadOrder),
+        (&[10, 0, 12, 0], Version::Three, Cut::BadOrder),
+        (&[1, 0, 1, 0], Version::Three, Cut::BadOrder),
+        (&[2, 0, 1, 0], Version::Three, Cut::BadOrder),
+        (&[14, 0], Version::Three, Cut::BadOrder),
+        (&[1], Version::Three, Cut::BadSize),
+        (&[1, 0x80], Version::Three, Cut::BadSize),
+        (&[1, 2, 7], Version::Three, Cut::BadSize),
+        (&[1, 0, 1, 2, 7], Version::Three, Cut::BadSize),
+        (&[2, 0, 1, 0, 1, 9], Version::Three, Cut::BadOrder),
     ];
-    for (after_head, version, text) in cases {
-        assert_eq!(rt; answer(rt.alloc(), after_head, version)?.as_str(), text);
+    for (after_head, version, answer) in cases {
+        assert!(rt; cut_behind_head(rt.alloc(), after_head, version)? == answer);
     }
-    let head = sections(rt.alloc(), b"\0asm\x0d\0\0\0", Version::Three);
-    assert!(rt; matches!(head, Err(crate::sections::FrameFault::BadHead)));
+    let head = cutting_of(rt.alloc(), b"\0asm\x0d\0\0\0", Version::Three)?;
+    assert!(rt; head == Cut::BadHead);
     Ok(())
 }
 
 #[test]
 fn names(rt: HostRuntime) {
-    assert_eq!(rt;
-        crate::names::split_name(&[2, b'h', b'i', 7]),
-        Some(("hi", [7].as_slice()))
-    );
-    assert_eq!(rt; crate::names::split_name(&[2, 0xC3, 0x28]), None);
-    assert!(rt; crate::names::is_custom(&[0]));
+    assert!(rt; split_name(&[2, b'h', b'i', 7]) == Some(("hi", [7].as_slice())));
+    assert!(rt; split_name(&[2, 0xC3, 0x28]).is_none() && is_custom(&[0]));
 }
