@@ -1,0 +1,223 @@
+-- What each instruction of 3.0 takes and gives, in the order of chapter 3 of the standard, "Instructions". An instruction
+-- that no rule types in its context is untyped.
+use Rattle.std.specs.Prelude.{ℕ, Bool, true, false, ◌&&◌, ◌||◌, List, [], ◌∷◌, ◌++◌, nat_lt, nat_le, ◌^◌, Option, Some, None, slice_get}
+use Rattle.std.specs.List.{list_all}
+use Rattle.num_core.specs.Accesses.{load_width, load_bytes, store_width, store_bytes}
+use Rattle.num_core.specs.Integers.{width_from, width_to}
+use Rattle.lane_core.specs.Shapes.{lane_count, lane_bytes, extract_shape, lane_load_bytes}
+use Rattle.wasm_ast.specs.declared.module.ty.Ty.{Ty}
+use Rattle.wasm_ast.specs.declared.module.ty.Ty.TheVariants as types
+use Rattle.wasm_ast.specs.declared.module.ty.FuncType.{FuncType}
+use Rattle.wasm_ast.specs.declared.module.ty.Limits.{Limits}
+use Rattle.wasm_ast.specs.declared.module.immediates.MemArg.{MemArg}
+use Rattle.wasm_ast.specs.declared.module.immediates.Catch.{Catch}
+use Rattle.wasm_ast.specs.declared.module.immediates.Catch.TheVariants as catches
+use Rattle.wasm_ast.specs.declared.module.op.Op.{Op}
+use Rattle.wasm_ast.specs.declared.module.op.Op.TheVariants as ops
+use Rattle.wasm_ast.specs.declared.module.code.Instr.{Instr, out-Instr}
+use Rattle.wasm_ast.specs.declared.module.code.Instr.TheOpen.{Instr-F}
+use Rattle.typing_kit.specs.Forms.{Form, Untyped, Flat, Any, Select, Leaves, Table, Block, Choice}
+use Rattle.typed_trees.specs.Contexts.{Context, GlobalType, func_type, tag_type, block_type, address_of, address_type, is_value_type, is_reference_type}
+use Rattle.typed_trees.specs.Matching.{matches, all_match}
+use Rattle.typed_trees.specs.Operands.{int_type, lane_type}
+
+-- the form of an instruction of this language
+abbrev pub Shape : Type 0
+Shape = Form Ty Instr
+
+-- a form that asks for what is not there, or for a condition that does not hold
+abbrev pub where_some : {X : Type 0} → Option X → (X → Shape) → Shape
+where_some None f = Untyped
+where_some (Some x) f = f x
+
+abbrev pub where_true : Bool → Shape → Shape
+where_true true f = f
+where_true false f = Untyped
+
+-- of a list of labels: each is in range
+abbrev pub labels_at : List (List Ty) → List ℕ → Option (List (List Ty))
+labels_at ls [] = Some []
+labels_at ls (x ∷ xs) = with_label (slice_get ls x) (labels_at ls xs)
+  where
+    with_label : Option (List Ty) → Option (List (List Ty)) → Option (List (List Ty))
+    with_label (Some l) (Some more) = Some (l ∷ more)
+    with_label _ _ = None
+
+-- "Parametric Instructions": the one type of a typed select
+abbrev pub select_form : List Ty → Shape
+select_form (t ∷ []) = where_true (is_value_type t) (Flat (t ∷ (t ∷ (types.I32 ∷ []))) (t ∷ []))
+select_form _ = Untyped
+
+-- "Control Instructions": blocks
+abbrev pub block_form : FuncType → List Instr → Shape
+block_form t code = Block t.results t.params t.results code
+
+abbrev pub loop_form : FuncType → List Instr → Shape
+loop_form t code = Block t.params t.params t.results code
+
+abbrev pub if_form : FuncType → List Instr → List Instr → Shape
+if_form t first second = Choice t.params t.results first second
+
+-- "Catch Clauses": the label, counted from outside the try_table, takes what the clause hands on
+abbrev pub label_takes : List (List Ty) → ℕ → List Ty → Bool
+label_takes ls x ts = takes_at (slice_get ls x)
+  where
+    takes_at : Option (List Ty) → Bool
+    takes_at (Some l) = all_match ts l
+    takes_at None = false
+
+abbrev pub payload_fits : Option FuncType → (List Ty → Bool) → Bool
+payload_fits (Some t) p = p t.params
+payload_fits None p = false
+
+abbrev pub clause_fits : Context → List (List Ty) → Catch → Bool
+clause_fits c ls (catches.Tag x l) = payload_fits (tag_type c x) (λ ts. label_takes ls l ts)
+clause_fits c ls (catches.TagRef x l) = payload_fits (tag_type c x) (λ ts. label_takes ls l (ts ++ types.Exn ∷ []))
+clause_fits c ls (catches.All l) = label_takes ls l []
+clause_fits c ls (catches.AllRef l) = label_takes ls l (types.Exn ∷ [])
+
+abbrev pub try_form : Context → List (List Ty) → List Catch → FuncType → List Instr → Shape
+try_form c ls clauses t code = where_true (list_all (clause_fits c ls) clauses) (block_form t code)
+
+-- a table whose references are functions
+abbrev pub is_function_table : Context → ℕ → Bool
+is_function_table c x = holds_functions (slice_get c.tables x)
+  where
+    holds_functions : Option Ty → Bool
+    holds_functions (Some t) = matches t types.Func
+    holds_functions None = false
+
+-- tail calls: the results of the function that is called are those of the caller
+abbrev pub tail_form : Option (List Ty) → FuncType → List Ty → Shape
+tail_form (Some returns) t takes = where_true (all_match t.results returns) (Leaves takes)
+tail_form None t takes = Untyped
+
+-- "Variable Instructions"
+abbrev pub set_form : GlobalType → Shape
+set_form g = where_true g.mutable (Flat (g.type ∷ []) [])
+
+-- "Table Instructions": copies between a table and a table or an element segment
+abbrev pub copy_form : Ty → Ty → Shape
+copy_form to from = where_true (matches from to) (Flat (types.I32 ∷ (types.I32 ∷ (types.I32 ∷ []))) [])
+
+-- "Memory Instructions": the alignment is at most the natural one, and the offset an address of the memory
+abbrev pub is_access : Limits → MemArg → ℕ → Bool
+is_access l arg bytes = nat_le (2 ^ arg.align) bytes && (l.wide || nat_lt arg.offset (2 ^ 32))
+
+abbrev pub access_form : Context → MemArg → ℕ → (Ty → Shape) → Shape
+access_form c arg bytes f =
+    where_some (slice_get c.memories arg.memory) (λ l. where_true (is_access l arg bytes) (f (address_type l)))
+
+abbrev pub memory_form : Context → ℕ → (Ty → Shape) → Shape
+memory_form c x f = where_some (slice_get c.memories x) (λ l. f (address_type l))
+
+-- the length of a copy between memories has 64 bits only where both have addresses of 64 bits
+abbrev pub memory_copy_form : Limits → Limits → Shape
+memory_copy_form to from =
+    Flat (address_type to ∷ (address_type from ∷ (address_of (to.wide && from.wide) ∷ []))) []
+
+-- "Reference Instructions": ref.func names a function that occurs outside bodies
+abbrev pub ref_func_form : Context → ℕ → Shape
+ref_func_form c x =
+    where_some (slice_get c.funcs x) (λ t. where_true (c.refs x) (Flat [] (types.Func ∷ [])))
+
+-- "Reference Instructions", "Numeric Instructions" and "Vector Instructions"
+abbrev pub op_form : Context → Op → Shape
+op_form c (ops.RefNull t) = where_true (is_reference_type t) (Flat [] (t ∷ []))
+op_form c ops.RefIsNull = Any is_reference_type (types.I32 ∷ [])
+op_form c (ops.RefFunc x) = ref_func_form c x
+op_form c (ops.I32Const i) = Flat [] (types.I32 ∷ [])
+op_form c (ops.I64Const i) = Flat [] (types.I64 ∷ [])
+op_form c (ops.Eqz w) = Flat (int_type w ∷ []) (types.I32 ∷ [])
+op_form c (ops.Compare w op) = Flat (int_type w ∷ (int_type w ∷ [])) (types.I32 ∷ [])
+op_form c (ops.Unary w op) = Flat (int_type w ∷ []) (int_type w ∷ [])
+op_form c (ops.Binary w op) = Flat (int_type w ∷ (int_type w ∷ [])) (int_type w ∷ [])
+op_form c (ops.Convert op) = Flat (int_type (width_from op) ∷ []) (int_type (width_to op) ∷ [])
+op_form c (ops.V128Const v) = Flat [] (types.V128 ∷ [])
+op_form c (ops.Shuffle places) =
+    where_true (list_all (λ place. nat_lt place 32) places) (Flat (types.V128 ∷ (types.V128 ∷ [])) (types.V128 ∷ []))
+op_form c (ops.Splat shape) = Flat (lane_type shape ∷ []) (types.V128 ∷ [])
+op_form c (ops.Extract op lane) =
+    where_true (nat_lt lane (lane_count (extract_shape op))) (Flat (types.V128 ∷ []) (lane_type (extract_shape op) ∷ []))
+op_form c (ops.Replace shape lane) =
+    where_true (nat_lt lane (lane_count shape)) (Flat (types.V128 ∷ (lane_type shape ∷ [])) (types.V128 ∷ []))
+op_form c ops.Bitselect = Flat (types.V128 ∷ (types.V128 ∷ (types.V128 ∷ []))) (types.V128 ∷ [])
+op_form c (ops.Lanes1 op) = Flat (types.V128 ∷ []) (types.V128 ∷ [])
+op_form c (ops.Lanes2 op) = Flat (types.V128 ∷ (types.V128 ∷ [])) (types.V128 ∷ [])
+op_form c (ops.ShiftLanes op) = Flat (types.V128 ∷ (types.I32 ∷ [])) (types.V128 ∷ [])
+op_form c (ops.TestLanes op) = Flat (types.V128 ∷ []) (types.I32 ∷ [])
+
+-- the form of an instruction among these labels, the innermost first
+abbrev pub layer_form : Context → List (List Ty) → Instr-F Instr → Shape
+-- "Parametric Instructions"
+layer_form c ls Instr-F.Nop = Flat [] []
+layer_form c ls Instr-F.Unreachable = Leaves []
+layer_form c ls Instr-F.Drop = Any (λ t. true) []
+layer_form c ls Instr-F.Select = Select
+layer_form c ls (Instr-F.SelectTyped ts) = select_form ts
+-- "Control Instructions"
+layer_form c ls (Instr-F.Block type code) = where_some (block_type c type) (λ t. block_form t code)
+layer_form c ls (Instr-F.Loop type code) = where_some (block_type c type) (λ t. loop_form t code)
+layer_form c ls (Instr-F.If type first second) = where_some (block_type c type) (λ t. if_form t first second)
+layer_form c ls (Instr-F.Br l) = where_some (slice_get ls l) (λ ts. Leaves ts)
+layer_form c ls (Instr-F.BrIf l) = where_some (slice_get ls l) (λ ts. Flat (ts ++ types.I32 ∷ []) ts)
+layer_form c ls (Instr-F.BrTable xs last) =
+    where_some (slice_get ls last) (λ l. where_some (labels_at ls xs) (λ others. Table l others))
+layer_form c ls (Instr-F.Call x) = where_some (func_type c x) (λ t. Flat t.params t.results)
+layer_form c ls (Instr-F.CallIndirect x table) =
+    where_true (is_function_table c table) (where_some (slice_get c.types x) (λ t. Flat (t.params ++ types.I32 ∷ []) t.results))
+layer_form c ls Instr-F.Return = where_some c.returns (λ ts. Leaves ts)
+layer_form c ls (Instr-F.ReturnCall x) = where_some (func_type c x) (λ t. tail_form c.returns t t.params)
+layer_form c ls (Instr-F.ReturnCallIndirect x table) =
+    where_true (is_function_table c table) (where_some (slice_get c.types x) (λ t. tail_form c.returns t (t.params ++ types.I32 ∷ [])))
+layer_form c ls (Instr-F.Throw x) = where_some (tag_type c x) (λ t. Leaves t.params)
+layer_form c ls Instr-F.ThrowRef = Leaves (types.Exn ∷ [])
+layer_form c ls (Instr-F.TryTable type clauses code) =
+    where_some (block_type c type) (λ t. try_form c ls clauses t code)
+-- "Variable Instructions"
+layer_form c ls (Instr-F.LocalGet x) = where_some (slice_get c.locals x) (λ t. Flat [] (t ∷ []))
+layer_form c ls (Instr-F.LocalSet x) = where_some (slice_get c.locals x) (λ t. Flat (t ∷ []) [])
+layer_form c ls (Instr-F.LocalTee x) = where_some (slice_get c.locals x) (λ t. Flat (t ∷ []) (t ∷ []))
+layer_form c ls (Instr-F.GlobalGet x) = where_some (slice_get c.globals x) (λ g. Flat [] (g.type ∷ []))
+layer_form c ls (Instr-F.GlobalSet x) = where_some (slice_get c.globals x) set_form
+-- "Table Instructions"
+layer_form c ls (Instr-F.TableGet x) = where_some (slice_get c.tables x) (λ t. Flat (types.I32 ∷ []) (t ∷ []))
+layer_form c ls (Instr-F.TableSet x) = where_some (slice_get c.tables x) (λ t. Flat (types.I32 ∷ (t ∷ [])) [])
+layer_form c ls (Instr-F.TableSize x) = where_some (slice_get c.tables x) (λ t. Flat [] (types.I32 ∷ []))
+layer_form c ls (Instr-F.TableGrow x) =
+    where_some (slice_get c.tables x) (λ t. Flat (t ∷ (types.I32 ∷ [])) (types.I32 ∷ []))
+layer_form c ls (Instr-F.TableFill x) =
+    where_some (slice_get c.tables x) (λ t. Flat (types.I32 ∷ (t ∷ (types.I32 ∷ []))) [])
+layer_form c ls (Instr-F.TableCopy to from) =
+    where_some (slice_get c.tables to) (λ t. where_some (slice_get c.tables from) (λ s. copy_form t s))
+layer_form c ls (Instr-F.TableInit segment x) =
+    where_some (slice_get c.tables x) (λ t. where_some (slice_get c.elems segment) (λ s. copy_form t s))
+layer_form c ls (Instr-F.ElemDrop segment) = where_some (slice_get c.elems segment) (λ s. Flat [] [])
+-- "Memory Instructions"
+layer_form c ls (Instr-F.Load op arg) =
+    access_form c arg (load_bytes op) (λ address. Flat (address ∷ []) (int_type (load_width op) ∷ []))
+layer_form c ls (Instr-F.Store op arg) =
+    access_form c arg (store_bytes op) (λ address. Flat (address ∷ (int_type (store_width op) ∷ [])) [])
+layer_form c ls (Instr-F.LoadVector op arg) =
+    access_form c arg (lane_load_bytes op) (λ address. Flat (address ∷ []) (types.V128 ∷ []))
+layer_form c ls (Instr-F.StoreVector arg) = access_form c arg 16 (λ address. Flat (address ∷ (types.V128 ∷ [])) [])
+layer_form c ls (Instr-F.LoadLane shape arg lane) =
+    where_true (nat_lt lane (lane_count shape)) (access_form c arg (lane_bytes shape) (λ address. Flat (address ∷ (types.V128 ∷ [])) (types.V128 ∷ [])))
+layer_form c ls (Instr-F.StoreLane shape arg lane) =
+    where_true (nat_lt lane (lane_count shape)) (access_form c arg (lane_bytes shape) (λ address. Flat (address ∷ (types.V128 ∷ [])) []))
+layer_form c ls (Instr-F.MemorySize x) = memory_form c x (λ address. Flat [] (address ∷ []))
+layer_form c ls (Instr-F.MemoryGrow x) = memory_form c x (λ address. Flat (address ∷ []) (address ∷ []))
+layer_form c ls (Instr-F.MemoryFill x) =
+    memory_form c x (λ address. Flat (address ∷ (types.I32 ∷ (address ∷ []))) [])
+layer_form c ls (Instr-F.MemoryCopy to from) =
+    where_some (slice_get c.memories to) (λ t. where_some (slice_get c.memories from) (λ s. memory_copy_form t s))
+layer_form c ls (Instr-F.MemoryInit segment x) =
+    memory_form c x (λ address. where_true (nat_lt segment c.datas) (Flat (address ∷ (types.I32 ∷ (types.I32 ∷ []))) []))
+layer_form c ls (Instr-F.DataDrop segment) = where_true (nat_lt segment c.datas) (Flat [] [])
+-- "Reference Instructions", "Numeric Instructions" and "Vector Instructions"
+layer_form c ls (Instr-F.Pure op) = op_form c op
+-- there is no rule for an instruction on floats
+layer_form c ls (Instr-F.Float code immediates) = Untyped
+
+abbrev pub form : Context → List (List Ty) → Instr → Shape
+form c ls i = layer_form c ls (out-Instr i)

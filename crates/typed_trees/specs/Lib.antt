@@ -1,0 +1,6 @@
+pub mod Constants
+pub mod Contexts
+pub mod Forms
+pub mod Matching
+pub mod Modules
+pub mod Operands
