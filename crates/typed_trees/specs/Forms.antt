@@ -16,8 +16,10 @@ use Rattle.wasm_ast.specs.declared.module.op.Op.{Op}
 use Rattle.wasm_ast.specs.declared.module.op.Op.TheVariants as ops
 use Rattle.wasm_ast.specs.declared.module.code.Instr.{Instr, out-Instr}
 use Rattle.wasm_ast.specs.declared.module.code.Instr.TheOpen.{Instr-F}
-use Rattle.typing_kit.specs.Forms.{Form, Untyped, Flat, Any, Select, Leaves, Table, Block, Choice}
-use Rattle.typed_trees.specs.Contexts.{Context, GlobalType, func_type, tag_type, block_type, address_of, address_type, is_value_type, is_reference_type}
+use Rattle.typing_kit.specs.declared.kind.Kind.TheVariants.{Every, Reference, Plain}
+use Rattle.typing_kit.specs.declared.kind.Kind.{Kind}
+use Rattle.typing_kit.specs.Form.{Form, Language, Untyped, Flat, Any, Select, Leaves, Table, Block, Choice}
+use Rattle.typed_trees.specs.Contexts.{Context, GlobalType, func_type, tag_type, block_type, address_of, address_type, is_value_type, is_reference_type, is_plain_type}
 use Rattle.typed_trees.specs.Matching.{matches, all_match}
 use Rattle.typed_trees.specs.Operands.{int_type, lane_type}
 
@@ -34,14 +36,14 @@ abbrev pub where_true : Bool → Shape → Shape
 where_true true f = f
 where_true false f = Untyped
 
--- of a list of labels: each is in range
+-- what branches to the labels of a list take, where each of them is in range
+abbrev pub both_labels : Option (List Ty) → Option (List (List Ty)) → Option (List (List Ty))
+both_labels (Some l) (Some more) = Some (l ∷ more)
+both_labels _ _ = None
+
 abbrev pub labels_at : List (List Ty) → List ℕ → Option (List (List Ty))
 labels_at ls [] = Some []
-labels_at ls (x ∷ xs) = with_label (slice_get ls x) (labels_at ls xs)
-  where
-    with_label : Option (List Ty) → Option (List (List Ty)) → Option (List (List Ty))
-    with_label (Some l) (Some more) = Some (l ∷ more)
-    with_label _ _ = None
+labels_at ls (x ∷ xs) = both_labels (slice_get ls x) (labels_at ls xs)
 
 -- "Parametric Instructions": the one type of a typed select
 abbrev pub select_form : List Ty → Shape
@@ -56,15 +58,15 @@ abbrev pub loop_form : FuncType → List Instr → Shape
 loop_form t code = Block t.params t.params t.results code
 
 abbrev pub if_form : FuncType → List Instr → List Instr → Shape
-if_form t first second = Choice t.params t.results first second
+if_form t first second = Choice t.results t.params t.results first second
 
 -- "Catch Clauses": the label, counted from outside the try_table, takes what the clause hands on
+abbrev pub takes_all : List Ty → Option (List Ty) → Bool
+takes_all ts (Some l) = all_match ts l
+takes_all ts None = false
+
 abbrev pub label_takes : List (List Ty) → ℕ → List Ty → Bool
-label_takes ls x ts = takes_at (slice_get ls x)
-  where
-    takes_at : Option (List Ty) → Bool
-    takes_at (Some l) = all_match ts l
-    takes_at None = false
+label_takes ls x ts = takes_all ts (slice_get ls x)
 
 abbrev pub payload_fits : Option FuncType → (List Ty → Bool) → Bool
 payload_fits (Some t) p = p t.params
@@ -80,12 +82,12 @@ abbrev pub try_form : Context → List (List Ty) → List Catch → FuncType →
 try_form c ls clauses t code = where_true (list_all (clause_fits c ls) clauses) (block_form t code)
 
 -- a table whose references are functions
+abbrev pub holds_functions : Option Ty → Bool
+holds_functions (Some t) = matches t types.Func
+holds_functions None = false
+
 abbrev pub is_function_table : Context → ℕ → Bool
 is_function_table c x = holds_functions (slice_get c.tables x)
-  where
-    holds_functions : Option Ty → Bool
-    holds_functions (Some t) = matches t types.Func
-    holds_functions None = false
 
 -- tail calls: the results of the function that is called are those of the caller
 abbrev pub tail_form : Option (List Ty) → FuncType → List Ty → Shape
@@ -124,7 +126,7 @@ ref_func_form c x =
 -- "Reference Instructions", "Numeric Instructions" and "Vector Instructions"
 abbrev pub op_form : Context → Op → Shape
 op_form c (ops.RefNull t) = where_true (is_reference_type t) (Flat [] (t ∷ []))
-op_form c ops.RefIsNull = Any is_reference_type (types.I32 ∷ [])
+op_form c ops.RefIsNull = Any Reference (types.I32 ∷ [])
 op_form c (ops.RefFunc x) = ref_func_form c x
 op_form c (ops.I32Const i) = Flat [] (types.I32 ∷ [])
 op_form c (ops.I64Const i) = Flat [] (types.I64 ∷ [])
@@ -152,7 +154,7 @@ abbrev pub layer_form : Context → List (List Ty) → Instr-F Instr → Shape
 -- "Parametric Instructions"
 layer_form c ls Instr-F.Nop = Flat [] []
 layer_form c ls Instr-F.Unreachable = Leaves []
-layer_form c ls Instr-F.Drop = Any (λ t. true) []
+layer_form c ls Instr-F.Drop = Any Every []
 layer_form c ls Instr-F.Select = Select
 layer_form c ls (Instr-F.SelectTyped ts) = select_form ts
 -- "Control Instructions"
@@ -221,3 +223,13 @@ layer_form c ls (Instr-F.Float code immediates) = Untyped
 
 abbrev pub form : Context → List (List Ty) → Instr → Shape
 form c ls i = layer_form c ls (out-Instr i)
+
+-- which types an operand of a kind may have
+abbrev pub is_of_kind : Kind → Ty → Bool
+is_of_kind Every t = true
+is_of_kind Reference t = is_reference_type t
+is_of_kind Plain t = is_plain_type t
+
+-- the language of code in this context
+abbrev pub language : Context → Language Ty Instr
+language c = record { sub = matches; condition = types.I32; of_kind = is_of_kind; form = form c }
