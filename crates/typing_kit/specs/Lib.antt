@@ -1,0 +1,4 @@
+pub mod Matching
+pub mod Form
+pub mod Typing
+pub mod Leaf
