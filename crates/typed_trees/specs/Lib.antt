@@ -1,6 +1,8 @@
-pub mod Constants
 pub mod Contexts
-pub mod Forms
 pub mod Matching
-pub mod Modules
 pub mod Operands
+pub mod Forms
+pub mod Constants
+pub mod Modules
+pub mod Trees
+pub mod Typed

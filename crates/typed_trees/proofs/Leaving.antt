@@ -1,0 +1,43 @@
+-- An instruction behind which nothing is reached has a form that says so.
+use Rattle.std.proofs.Common.{◌≡◌, Bool, true, false, List, Option, Some, None, subst}
+use Rattle.wasm_ast.specs.declared.module.ty.Ty.{Ty}
+use Rattle.wasm_ast.specs.declared.module.ty.FuncType.{FuncType}
+use Rattle.wasm_ast.specs.declared.module.code.Instr.{Instr}
+use Rattle.wasm_ast.specs.declared.module.code.Instr.TheOpen.{Instr-F}
+use Rattle.typed_trees.specs.Contexts.{Context}
+use Rattle.typed_trees.specs.Forms.{Shape, where_some, where_true, layer_form, tail_form, language}
+use Rattle.typed_trees.specs.Trees.{leaves_layer}
+use Rattle.typed_trees.proofs.LeafTyped.{IsLeaving}
+
+abbrev is_true : Bool → Type 0
+is_true true = Unit {0}
+is_true false = ⊥
+
+clash : false ≡ true → ⊥
+clash h = subst (λ b. is_true (elim b as (λ x. Bool) [ true ↦ false | false ↦ true ])) h tt
+
+module _ (c : Context) where
+  leaving_some : {X : Type 0} (o : Option X) (f : X → Shape) → ((x : X) → IsLeaving (language c) (f x)) → IsLeaving (language c) (where_some o f)
+  leaving_some None f h = tt
+  leaving_some (Some x) f h = h x
+
+  leaving_true : (b : Bool) (f : Shape) → IsLeaving (language c) f → IsLeaving (language c) (where_true b f)
+  leaving_true true f h = h
+  leaving_true false f h = tt
+
+  leaving_tail : (returns : Option (List Ty)) (t : FuncType) (takes : List Ty) → IsLeaving (language c) (tail_form returns t takes)
+  leaving_tail None t takes = tt
+  leaving_tail (Some rs) t takes = search leaving_true
+
+  ruleset leaving_rules = (leaving_some, leaving_true, leaving_tail)
+
+  pub leaving_layer : (ls : List (List Ty)) (l : Instr-F Instr) → leaves_layer l ≡ true → IsLeaving (language c) (layer_form c ls l)
+  leaving_layer ls Instr-F.Unreachable h = tt
+  leaving_layer ls (Instr-F.Br x) h = search leaving_rules
+  leaving_layer ls (Instr-F.BrTable xs last) h = search leaving_rules
+  leaving_layer ls Instr-F.Return h = search leaving_rules
+  leaving_layer ls (Instr-F.ReturnCall x) h = search leaving_rules
+  leaving_layer ls (Instr-F.ReturnCallIndirect x table) h = search leaving_rules
+  leaving_layer ls (Instr-F.Throw x) h = search leaving_rules
+  leaving_layer ls Instr-F.ThrowRef h = tt
+  leaving_layer ls _ h = absurd (clash h)

@@ -1,0 +1,4 @@
+pub mod Erasing
+pub mod LeafTyped
+pub mod Leaving
+pub mod Refilled

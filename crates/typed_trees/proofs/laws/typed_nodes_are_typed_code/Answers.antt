@@ -1,0 +1,3 @@
+use Rattle.typed_trees.proofs.Erasing.{nodes_erased}
+
+returns c = nodes_erased
