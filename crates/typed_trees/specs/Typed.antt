@@ -42,5 +42,5 @@ TypedTrees m (t ∷ type_indices) (f ∷ fns) = TypedFuncTree m t f × TypedTree
 pub record IsTypedTree (m : Module × List TypedFn) : Type 0 where
   pub no_bodies : m.0.codes ≡ []
   pub counts : Agrees (module_of m)
-  pub parts : TypedParts m.0
-  pub trees : TypedTrees m.0 m.0.funcs m.1
+  pub parts : TypedParts (module_of m)
+  pub trees : TypedTrees (module_of m) m.0.funcs m.1

@@ -16,11 +16,9 @@ ghost use Rattle.typed_trees.specs.Typed.{module_of, IsTypedTree};
 /// What typed nodes stand for is typed code, of the same types.
 pub fn typed_nodes_are_typed_code()
     ensures { (c : Context) (labels : List (List Ty)) (nodes : List Node) (before : List Ty) (end : Option (List Ty)) → TypedNodes c labels nodes before end → (after : List Ty) → EndsAs end after → TypedCode (language c) labels (erased nodes) (known before) (known after) }
-{
-}
+{}
 
 /// The module that a typed module stands for is typed.
 pub fn typed_modules_are_typed()
     ensures { (m : Module × List TypedFn) → IsTypedTree m → IsTyped (module_of m) }
-{
-}
+{}

@@ -31,8 +31,13 @@ impl Model for TypedModule {
     ghost use Rattle.wasm_ast.specs.declared.module.parts.Module.{Module};
     ghost use Rattle.typed_trees.specs.declared.module.TypedFn.{TypedFn};
     ghost use Rattle.typed_trees.specs.Typed.{IsTypedTree};
+    ghost use Rattle.std.specs.Coded.{codes};
+    ghost use Rattle.wasm_ast.specs.contracts.module.code.Instr as instr;
+    ghost use Rattle.typed_trees.specs.contracts.node.Node as node;
 
     ghost Value = { Module × List TypedFn };
+
+    ghost coded = { Prim.hlevel (codes, instr.the_row.coded, node.the_row.coded) };
 
     ghost view = { λ m. (m.part, m.fns) };
 
