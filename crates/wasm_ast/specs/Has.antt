@@ -84,9 +84,10 @@ abbrev pub exports_wide_global : List Ty → ExportDesc → Bool
 exports_wide_global types (exports.Global x) = is_wide_at (slice_get types x)
 exports_wide_global types _ = false
 
-abbrev pub is_exported_table : ExportDesc → Bool
-is_exported_table (exports.Table x) = true
-is_exported_table _ = false
+-- one of so many tables
+abbrev pub is_exported_table : ℕ → ExportDesc → Bool
+is_exported_table count (exports.Table x) = nat_lt x count
+is_exported_table count _ = false
 
 -- exnref in the function type with an index
 abbrev pub names_exnref : Option FuncType → Bool
@@ -152,7 +153,7 @@ has_of m features.ImportedTable = imports_some is_table m
 has_of m features.ImportedTag = imports_some is_tag m
 has_of m features.ImportedMutableGlobal = imports_some is_mutable_global m
 has_of m features.ImportedMemory = imports_some is_memory m
-has_of m features.ExportedTable = list_any (λ e. is_exported_table e.desc) m.exports
+has_of m features.ExportedTable = list_any (λ e. is_exported_table (table_count m) e.desc) m.exports
 has_of m features.WideGlobal = imports_some is_wide_global m || list_any (λ e. exports_wide_global (global_types m) e.desc) m.exports
 has_of m features.ExnrefTable = holds features.Exceptions m
 has_of m features.HostExnref = meets_type (is_exnref_type m) m

@@ -1,22 +1,38 @@
 // What exports show of the tables and globals that a host would meet.
 
-ghost use Rattle.std.specs.Prelude.{◌≡◌, IfOk};
+ghost use Rattle.std.specs.Prelude.{◌≡◌, ◌+◌, IfOk};
 ghost use Rattle.std.specs.List.{list_any};
-ghost use Rattle.wasm_ast.specs.Spaces.{global_types};
+ghost use Rattle.wasm_ast.specs.Spaces.{global_types, table_count};
 ghost use Rattle.wasm_ast.specs.Has.{exports_wide_global, is_exported_table};
 
 use super::imports::is_wide_type;
 use crate::module::{Export, ExportDesc, Module, Ty};
-use crate::spaces::global_types;
+use crate::spaces::{global_types, imported_tables};
 use std::alloc::{AllocError, Global};
 
-/// Whether a table is exported.
-pub fn exports_table(exports: &[Export]) -> bool
-    ensures { result ≡ list_any (λ e. is_exported_table e.desc) exports.now }
+/// Whether a table of the module is exported. An index out of range names none.
+pub fn exports_table(m: &Module) -> bool
+    ensures { result ≡ list_any (λ e. is_exported_table (table_count m.now) e.desc) m.now.exports }
 {
-    exports
+    let imported = imported_tables(m);
+    let own = m.tables.len();
+    m.exports
+        .as_slice()
         .iter()
-        .any(|export| matches!(export.desc, ExportDesc::Table(_)))
+        .any(|export| is_exported_table(imported, own, export.desc))
+}
+
+/// Whether it is one of so many tables, the imported ones first.
+fn is_exported_table(imported: usize, own: usize, desc: ExportDesc) -> bool
+    ensures { result ≡ is_exported_table (imported + own) desc }
+{
+    match desc {
+        ExportDesc::Table(table) => {
+            let table = table as usize;
+            table < imported || table - imported < own
+        }
+        _ => false,
+    }
 }
 
 /// Whether a global that is v128 or a reference is exported. It fails for want of memory alone.

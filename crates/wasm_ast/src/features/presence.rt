@@ -40,7 +40,7 @@ pub fn has(alloc: Global, m: &Module, feature: Feature) -> Result<bool, AllocErr
         Feature::ImportedTag => Ok(imports_some(m, ImportTest::Tag)),
         Feature::ImportedMutableGlobal => Ok(imports_some(m, ImportTest::MutableGlobal)),
         Feature::ImportedMemory => Ok(imports_some(m, ImportTest::Memory)),
-        Feature::ExportedTable => Ok(exports_table(m.exports.as_slice())),
+        Feature::ExportedTable => Ok(exports_table(m)),
         Feature::ExnrefTable => Ok(holds(m, Feature::Exceptions)),
         Feature::WideMemory => Ok(
             imports_some(m, ImportTest::WideMemory) || is_memory_wide(m.memories.as_slice()),

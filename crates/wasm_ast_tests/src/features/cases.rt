@@ -73,10 +73,12 @@ pub enum Source {
     ImportedGlobal,
 }
 
-/// What has a feature by its size or its kind, where `true` is the one that has it.
+/// What has a feature by its size, its kind or its index, where `true` is the one that has it.
 #[derive(Clone, Copy)]
 pub enum Part {
     Table(bool),
+    ExportedTable(u32),
+    ExportedImport(u32),
     Memory(bool),
     TwoMemories,
     SecondMemory,
@@ -193,6 +195,14 @@ fn put_part(alloc: Global, part: Part, m: &mut Module) -> Result<(), AllocError>
     let two: &[Ty] = &[Ty::I32, Ty::I64];
     match part {
         Part::Table(wide) => put_table(Ty::Func, if wide { WIDE } else { NARROW }, None, m),
+        Part::ExportedTable(table) => {
+            put_table(Ty::Func, NARROW, None, m)?;
+            put_export(alloc, ExportDesc::Table(table), m)
+        }
+        Part::ExportedImport(table) => {
+            put_import(alloc, ImportDesc::Table(Ty::Func, NARROW), m)?;
+            put_export(alloc, ExportDesc::Table(table), m)
+        }
         Part::Memory(wide) => m.memories.push(if wide { WIDE } else { NARROW }),
         Part::TwoMemories => {
             m.memories.push(NARROW)?;

@@ -312,10 +312,7 @@ fn exports() -> &'static [(Case, &'static [Feature])] {
         (Case::Export(ExportDesc::Func(0), Ty::I32), &[]),
         (Case::Export(ExportDesc::Memory(0), Ty::I32), &[]),
         (Case::Export(ExportDesc::Tag(0), Ty::I32), &[]),
-        (
-            Case::Export(ExportDesc::Table(0), Ty::I32),
-            &[Feature::ExportedTable],
-        ),
+        (Case::Export(ExportDesc::Table(0), Ty::I32), &[]),
         (Case::Export(ExportDesc::Global(0), Ty::I32), &[]),
         (
             Case::Export(ExportDesc::Global(0), Ty::V128),
@@ -337,6 +334,23 @@ fn parts() -> &'static [(Case, &'static [Feature])] {
     &[
         (Case::Part(Part::Table(false)), &[]),
         (Case::Part(Part::Table(true)), &[Feature::WideTable]),
+        (Case::Part(Part::ExportedTable(1)), &[]),
+        (
+            Case::Part(Part::ExportedTable(0)),
+            &[Feature::ExportedTable, Feature::Tables],
+        ),
+        (
+            Case::Part(Part::ExportedImport(0)),
+            &[
+                Feature::ImportedTable,
+                Feature::ExportedTable,
+                Feature::Tables,
+            ],
+        ),
+        (
+            Case::Part(Part::ExportedImport(1)),
+            &[Feature::ImportedTable],
+        ),
         (Case::Part(Part::Memory(false)), &[]),
         (Case::Part(Part::Memory(true)), &[Feature::WideMemory]),
         (Case::Part(Part::TwoMemories), &[Feature::Memories]),
