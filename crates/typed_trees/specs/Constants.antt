@@ -10,7 +10,8 @@ use Rattle.wasm_ast.specs.declared.module.code.Instr.{Instr, out-Instr}
 use Rattle.wasm_ast.specs.declared.module.code.Instr.TheOpen.{Instr-F}
 use Rattle.typing_kit.specs.Matching.{known}
 use Rattle.typing_kit.specs.Typing.{TypedCode}
-use Rattle.typed_trees.specs.Contexts.{Context, GlobalType}
+use Rattle.typed_trees.specs.Contexts.{Context}
+use Rattle.typed_trees.specs.declared.global_type.GlobalType.{GlobalType}
 use Rattle.typed_trees.specs.Forms.{language}
 
 -- add, sub and mul: the extended constant expressions

@@ -4,13 +4,9 @@ use Rattle.wasm_ast.specs.declared.module.ty.Ty.{Ty}
 use Rattle.wasm_ast.specs.declared.module.ty.Ty.TheVariants as types
 use Rattle.wasm_ast.specs.declared.module.ty.FuncType.{FuncType}
 use Rattle.wasm_ast.specs.declared.module.ty.Limits.{Limits}
+use Rattle.typed_trees.specs.declared.global_type.GlobalType.{GlobalType}
 use Rattle.wasm_ast.specs.declared.module.ty.BlockType.{BlockType}
 use Rattle.wasm_ast.specs.declared.module.ty.BlockType.TheVariants as blocks
-
--- "Global Types"
-pub record GlobalType : Type 0 where
-  pub type : Ty
-  pub mutable : Bool
 
 pub record Context : Type 0 where
   pub types : List FuncType
@@ -24,8 +20,8 @@ pub record Context : Type 0 where
   pub memories : List Limits
   pub datas : ℕ
   pub globals : List GlobalType
-  -- whether a function occurs in the module outside the bodies of functions and the start function
-  pub refs : ℕ → Bool
+  -- of each function, whether it occurs in the module outside the bodies of functions and the start function
+  pub refs : List Bool
   pub locals : List Ty
   -- the results of the function, inside one
   pub returns : Option (List Ty)

@@ -16,10 +16,12 @@ use Rattle.wasm_ast.specs.declared.module.op.Op.{Op}
 use Rattle.wasm_ast.specs.declared.module.op.Op.TheVariants as ops
 use Rattle.wasm_ast.specs.declared.module.code.Instr.{Instr, out-Instr}
 use Rattle.wasm_ast.specs.declared.module.code.Instr.TheOpen.{Instr-F}
+use Rattle.wasm_ast.specs.Marking.{is_marked}
+use Rattle.typed_trees.specs.declared.global_type.GlobalType.{GlobalType}
 use Rattle.typing_kit.specs.declared.kind.Kind.TheVariants.{Every, Reference, Plain}
 use Rattle.typing_kit.specs.declared.kind.Kind.{Kind}
 use Rattle.typing_kit.specs.Form.{Form, Language, Untyped, Flat, Any, Select, Leaves, Table, Block, Choice}
-use Rattle.typed_trees.specs.Contexts.{Context, GlobalType, func_type, tag_type, block_type, address_of, address_type, is_value_type, is_reference_type, is_plain_type}
+use Rattle.typed_trees.specs.Contexts.{Context, func_type, tag_type, block_type, address_of, address_type, is_value_type, is_reference_type, is_plain_type}
 use Rattle.typed_trees.specs.Matching.{matches, all_match}
 use Rattle.typed_trees.specs.Operands.{int_type, lane_type}
 
@@ -96,7 +98,7 @@ tail_form None t takes = Untyped
 
 -- "Variable Instructions"
 abbrev pub set_form : GlobalType → Shape
-set_form g = where_true g.mutable (Flat (g.type ∷ []) [])
+set_form g = where_true g.mutable (Flat (g.ty ∷ []) [])
 
 -- "Table Instructions": copies between a table and a table or an element segment
 abbrev pub copy_form : Ty → Ty → Shape
@@ -121,7 +123,7 @@ memory_copy_form to from =
 -- "Reference Instructions": ref.func names a function that occurs outside bodies
 abbrev pub ref_func_form : Context → ℕ → Shape
 ref_func_form c x =
-    where_some (slice_get c.funcs x) (λ t. where_true (c.refs x) (Flat [] (types.Func ∷ [])))
+    where_some (slice_get c.funcs x) (λ t. where_true (is_marked c.refs x) (Flat [] (types.Func ∷ [])))
 
 -- "Reference Instructions", "Numeric Instructions" and "Vector Instructions"
 abbrev pub op_form : Context → Op → Shape
@@ -180,7 +182,7 @@ layer_form c ls (Instr-F.TryTable type clauses code) =
 layer_form c ls (Instr-F.LocalGet x) = where_some (slice_get c.locals x) (λ t. Flat [] (t ∷ []))
 layer_form c ls (Instr-F.LocalSet x) = where_some (slice_get c.locals x) (λ t. Flat (t ∷ []) [])
 layer_form c ls (Instr-F.LocalTee x) = where_some (slice_get c.locals x) (λ t. Flat (t ∷ []) (t ∷ []))
-layer_form c ls (Instr-F.GlobalGet x) = where_some (slice_get c.globals x) (λ g. Flat [] (g.type ∷ []))
+layer_form c ls (Instr-F.GlobalGet x) = where_some (slice_get c.globals x) (λ g. Flat [] (g.ty ∷ []))
 layer_form c ls (Instr-F.GlobalSet x) = where_some (slice_get c.globals x) set_form
 -- "Table Instructions"
 layer_form c ls (Instr-F.TableGet x) = where_some (slice_get c.tables x) (λ t. Flat (types.I32 ∷ []) (t ∷ []))

@@ -1,6 +1,6 @@
 -- When a module of 3.0 is typed: chapter 3 of the standard, "Types" and "Modules", by rules, a rule for each kind of part.
-use Rattle.std.specs.Prelude.{◌≡◌, ◌≢◌, ℕ, ◌<◌, ◌≤◌, ◌-◌, ◌^◌, Bool, true, false, ◌||◌, nat_eq, List, [], ◌∷◌, ◌++◌, length, map, filter_map, Option, Some, None, slice_get, option_and_then, AllPairs}
-use Rattle.std.specs.List.{AllByRecursion, list_any}
+use Rattle.std.specs.Prelude.{◌≡◌, ◌≢◌, ℕ, ◌<◌, ◌≤◌, ◌-◌, ◌^◌, Bool, true, false, List, [], ◌∷◌, ◌++◌, length, map, filter_map, replicate, unwrap_or, Option, Some, None, slice_get, option_and_then, AllPairs}
+use Rattle.std.specs.List.{AllByRecursion, flat_map}
 use Rattle.wasm_ast.specs.declared.module.ty.Ty.{Ty}
 use Rattle.wasm_ast.specs.declared.module.ty.Ty.TheVariants.{I32}
 use Rattle.wasm_ast.specs.declared.module.ty.FuncType.{FuncType}
@@ -21,12 +21,13 @@ use Rattle.wasm_ast.specs.declared.module.parts.Element.{Element}
 use Rattle.wasm_ast.specs.declared.module.parts.Segment.{Segment}
 use Rattle.wasm_ast.specs.declared.module.parts.Module.{Module}
 use Rattle.wasm_ast.specs.Counts.{Agrees}
-use Rattle.wasm_ast.specs.Occurrence.{Head, some_in}
-use Rattle.wasm_ast.specs.Places.{in_table, in_offset, in_element}
+use Rattle.wasm_ast.specs.Marking.{marked}
+use Rattle.wasm_ast.specs.Occurrence.{Head, head_of}
 use Rattle.wasm_ast.specs.Spaces.{func_indices}
 use Rattle.typing_kit.specs.Matching.{known}
 use Rattle.typing_kit.specs.Typing.{TypedCode}
-use Rattle.typed_trees.specs.Contexts.{Context, GlobalType, func_type, is_value_type, is_reference_type, address_type}
+use Rattle.typed_trees.specs.Contexts.{Context, func_type, is_value_type, is_reference_type, address_type}
+use Rattle.typed_trees.specs.declared.global_type.GlobalType.{GlobalType}
 use Rattle.typed_trees.specs.Matching.{matches}
 use Rattle.typed_trees.specs.Forms.{language}
 use Rattle.typed_trees.specs.Constants.{TypedConstant}
@@ -41,7 +42,7 @@ memory_import (imports.Memory limits) = Some limits
 memory_import _ = None
 
 abbrev pub global_import : ImportDesc → Option GlobalType
-global_import (imports.Global t mutable) = Some (record { type = t; mutable = mutable })
+global_import (imports.Global t mutable) = Some (record { ty = t; mutable = mutable })
 global_import _ = None
 
 abbrev pub tag_import : ImportDesc → Option ℕ
@@ -61,27 +62,41 @@ abbrev pub all_tags : Module → List ℕ
 all_tags m = imported_of tag_import m ++ m.tags
 
 abbrev pub global_type : Global → GlobalType
-global_type g = record { type = g.ty; mutable = g.mutable }
+global_type g = record { ty = g.ty; mutable = g.mutable }
 
 abbrev pub all_globals : Module → List GlobalType
 all_globals m = imported_of global_import m ++ map global_type m.globals
 
--- "Modules": the functions that occur outside the bodies of functions and the start function
-abbrev pub names_function : ℕ → Head → Bool
-names_function f (Instr-F.Pure (ops.RefFunc x)) = nat_eq x f
-names_function f _ = false
+-- "Modules": the functions that occur outside the bodies of functions and the start function. A constant expression
+-- holds no code, so what stands deeper in one need not be looked for
+abbrev pub func_named : Head → List ℕ
+func_named (Instr-F.Pure (ops.RefFunc x)) = x ∷ []
+func_named _ = []
 
-abbrev pub exports_function : ℕ → ExportDesc → Bool
-exports_function f (exports.Func x) = nat_eq x f
-exports_function f _ = false
+abbrev pub named_in : List Instr → List ℕ
+named_in = flat_map (λ i. func_named (head_of i))
 
-abbrev pub occurs_outside : Module → ℕ → Bool
-occurs_outside m f =
-    list_any (in_table (names_function f)) m.tables
-    || list_any (λ g. some_in (names_function f) g.init) m.globals
-    || list_any (in_element (names_function f)) m.elems
-    || list_any (λ s. in_offset (names_function f) s.mode) m.datas
-    || list_any (λ e. exports_function f e.desc) m.exports
+abbrev pub named_in_offset : Mode → List ℕ
+named_in_offset (Active x offset) = named_in offset
+named_in_offset _ = []
+
+abbrev pub named_in_element : Element → List ℕ
+named_in_element e = named_in_offset e.mode ++ flat_map named_in e.items
+
+abbrev pub func_exported : ExportDesc → List ℕ
+func_exported (exports.Func x) = x ∷ []
+func_exported _ = []
+
+abbrev pub named_outside : Module → List ℕ
+named_outside m =
+    flat_map (λ t. named_in (unwrap_or t.init [])) m.tables
+    ++ flat_map (λ g. named_in g.init) m.globals
+    ++ flat_map (λ e. func_exported e.desc) m.exports
+    ++ flat_map named_in_element m.elems
+    ++ flat_map (λ s. named_in_offset s.mode) m.datas
+
+abbrev pub refs_of : Module → List Bool
+refs_of m = marked (named_outside m) (replicate (length (func_indices m)) false)
 
 -- "Modules": the context of the module, outside its functions
 abbrev pub context : Module → Context
@@ -94,7 +109,7 @@ context m = record {
   memories = all_memories m;
   datas = length m.datas;
   globals = all_globals m;
-  refs = occurs_outside m;
+  refs = refs_of m;
   locals = [];
   returns = None;
 }
@@ -110,7 +125,7 @@ early_context m globals = record {
   memories = [];
   datas = 0;
   globals = globals;
-  refs = occurs_outside m;
+  refs = refs_of m;
   locals = [];
   returns = None;
 }

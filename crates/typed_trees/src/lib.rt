@@ -6,9 +6,11 @@
 #![tactic(auto)]
 
 mod copies;
+mod global_type;
 pub mod laws;
 mod module;
 mod node;
 
+pub use global_type::GlobalType;
 pub use module::{TypedFn, TypedModule};
 pub use node::{Node, Nodes};
