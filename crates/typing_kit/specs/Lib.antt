@@ -2,3 +2,5 @@ pub mod Matching
 pub mod Form
 pub mod Typing
 pub mod Leaf
+pub mod Stack
+pub mod Steps

@@ -5,9 +5,16 @@
 #![tactic(auto)]
 
 mod kind;
+mod matching;
 mod operand;
+mod operands;
+mod plan;
+mod steps;
 mod value_types;
 
 pub use kind::Kind;
 pub use operand::Operand;
+pub use operands::{Covered, Operands, fits, fits_whole};
+pub use plan::{Met, Plan};
+pub use steps::step;
 pub use value_types::ValueTypes;

@@ -1,0 +1,8 @@
+//! Decides when code of WebAssembly 3.0 is typed, and gives it with its types.
+#![tactic(auto)]
+
+mod plans;
+mod scope;
+mod types;
+
+pub use scope::{Scope, Spaces};

@@ -1,0 +1,3 @@
+// The plan of each instruction that holds no code, in groups.
+
+mod variables;
