@@ -1,14 +1,15 @@
 -- The stacks of the rules that a stack of the algorithm stands for. Both have the top first here.
-use Rattle.std.proofs.Common.{◌≡◌, ℕ, suc, ◌+◌, ◌-◌, ◌≤◌, ◌<◌, Bool, true, false, ◌&&◌, nat_le, List, [], ◌∷◌, ◌++◌, length, drop, reverse, map, refl, ap, sym, subst, ◌∙◌, arith, Option, Some, None}
+use Rattle.std.proofs.Common.{◌≡◌, ℕ, suc, ◌≤◌, Bool, true, false, ◌&&◌, nat_le, List, [], ◌∷◌, ◌++◌, length, drop, reverse, refl, ap, sym, subst, ◌∙◌, arith, Some}
 use Rattle.std.proofs.lemmas.List.{drop_all, length-reverse, length-map, append-nil}
 use Rattle.typing_kit.proofs.Lists.{map-reverse}
 use Rattle.std.proofs.lemmas.Bool.Decides.{nat_tests}
 use Rattle.typing_kit.specs.declared.operand.Operand.{Operand}
 use Rattle.typing_kit.specs.declared.operand.Operand.TheVariants.{Known, Bottom}
-use Rattle.typing_kit.specs.Matching.{known, IsOf, Matches, AllMatch}
+use Rattle.typing_kit.specs.Matching.{known, Matches, AllMatch}
 use Rattle.typing_kit.specs.Form.{Language}
 use Rattle.typing_kit.specs.Stack.{meets, fit, fit_whole}
 use Rattle.typing_kit.specs.Steps.{topmost}
+use Rattle.typing_kit.specs.Progress.{Covers}
 use Rattle.typing_kit.proofs.Laws.{Lawful, match_refl, match_trans, all_reverse}
 
 pub both : (a b : Bool) → a ≡ true → b ≡ true → (a && b) ≡ true
@@ -23,23 +24,16 @@ second_of_both true b e = e
 second_of_both false b e = let no : ⊥ = cc in absurd no
 
 module _ {T : Type 0} (sub : T → T → Bool) where
-  -- each operand matches the one at its place; where nothing reaches the place, the stack may go on below
-  abbrev pub Covers : Bool → List (Operand T) → List (Operand T) → Type 0
-  Covers dead [] [] = Unit {0}
-  Covers dead [] (b ∷ v) = dead ≡ true
-  Covers dead (a ∷ s) [] = ⊥
-  Covers dead (a ∷ s) (b ∷ v) = Matches sub a b × Covers dead s v
-
-  pub covers_dead : (v : List (Operand T)) → Covers true [] v
+  pub covers_dead : (v : List (Operand T)) → Covers sub true [] v
   covers_dead [] = tt
   covers_dead (b ∷ v) = refl
 
   -- what lies below all operands
-  covers_below : (dead : Bool) (v : List (Operand T)) → dead ≡ true → Covers dead [] v
+  covers_below : (dead : Bool) (v : List (Operand T)) → dead ≡ true → Covers sub dead [] v
   covers_below dead [] e = tt
   covers_below dead (b ∷ v) e = e
 
-  pub covers_append : (dead : Bool) (g f s v : List (Operand T)) → AllMatch sub g f → Covers dead s v → Covers dead (g ++ s) (f ++ v)
+  pub covers_append : (dead : Bool) (g f s v : List (Operand T)) → AllMatch sub g f → Covers sub dead s v → Covers sub dead (g ++ s) (f ++ v)
   covers_append dead [] [] s v m c = c
   covers_append dead [] (y ∷ f) s v m c = absurd m
   covers_append dead (x ∷ g) [] s v m c = absurd m
@@ -50,9 +44,9 @@ module _ {T : Type 0} (sub : T → T → Bool) where
     pub back : List (Operand T)
     pub is : v ≡ front ++ back
     pub front_matches : AllMatch sub g front
-    pub back_covered : Covers dead s back
+    pub back_covered : Covers sub dead s back
 
-  pub covers_front : (dead : Bool) (g s v : List (Operand T)) → Covers dead (g ++ s) v → Front dead g s v
+  pub covers_front : (dead : Bool) (g s v : List (Operand T)) → Covers sub dead (g ++ s) v → Front dead g s v
   covers_front dead [] s v c = record { front = []; back = v; is = refl; front_matches = tt; back_covered = c }
   covers_front dead (x ∷ g) s [] c = absurd c
   covers_front dead (x ∷ g) s (y ∷ v) c =
@@ -60,19 +54,19 @@ module _ {T : Type 0} (sub : T → T → Bool) where
       record { front = y ∷ r.front; back = r.back; is = ap (λ l. y ∷ l) r.is; front_matches = (c.0, r.front_matches); back_covered = r.back_covered }
 
   -- in code that can be reached
-  pub covers_alive : (s v : List (Operand T)) → Covers false s v → AllMatch sub s v
+  pub covers_alive : (s v : List (Operand T)) → Covers sub false s v → AllMatch sub s v
   covers_alive [] [] c = tt
   covers_alive [] (b ∷ v) c = let no : ⊥ = cc in absurd no
   covers_alive (a ∷ s) [] c = absurd c
   covers_alive (a ∷ s) (b ∷ v) c = (c.0, covers_alive s v c.1)
 
   -- without the topmost operand
-  pub covers_rest : (dead : Bool) (s : List (Operand T)) (o : Operand T) (v : List (Operand T)) → Covers dead s (o ∷ v) → Covers dead (drop 1 s) v
+  pub covers_rest : (dead : Bool) (s : List (Operand T)) (o : Operand T) (v : List (Operand T)) → Covers sub dead s (o ∷ v) → Covers sub dead (drop 1 s) v
   covers_rest dead [] o v c = covers_below dead v c
   covers_rest dead (a ∷ s) o v c = c.1
 
   -- with it again
-  pub covers_topmost : (dead : Bool) (s : List (Operand T)) (a o : Operand T) (v : List (Operand T)) → topmost dead s ≡ Some a → Matches sub a o → Covers dead (drop 1 s) v → Covers dead s (o ∷ v)
+  pub covers_topmost : (dead : Bool) (s : List (Operand T)) (a o : Operand T) (v : List (Operand T)) → topmost dead s ≡ Some a → Matches sub a o → Covers sub dead (drop 1 s) v → Covers sub dead s (o ∷ v)
   covers_topmost dead (b ∷ s) a o v e m c = let same : b ≡ a = cc in (subst (λ x. Matches sub x o) (sym same) m, c)
   covers_topmost true [] a o v e m c = refl
   covers_topmost false [] a o v e m c = let no : ⊥ = cc in absurd no
@@ -83,7 +77,7 @@ module _ {T : Type 0} (sub : T → T → Bool) where
     pub is : topmost dead s ≡ Some operand
     pub matches : Matches sub operand o
 
-  pub covers_above : (dead : Bool) (s : List (Operand T)) (o : Operand T) (v : List (Operand T)) → Covers dead s (o ∷ v) → Above dead s o
+  pub covers_above : (dead : Bool) (s : List (Operand T)) (o : Operand T) (v : List (Operand T)) → Covers sub dead s (o ∷ v) → Above dead s o
   covers_above dead (a ∷ s) o v c = record { operand = a; is = refl; matches = c.0 }
   covers_above true [] o v c = record { operand = Bottom; is = refl; matches = tt }
   covers_above false [] o v c = let no : ⊥ = cc in absurd no

@@ -1,10 +1,10 @@
 -- How the test whether operands fit types goes along both lists.
-use Rattle.std.proofs.Common.{◌≡◌, ℕ, suc, ◌+◌, ◌-◌, ◌≤◌, ◌<◌, Bool, true, false, ◌&&◌, List, [], ◌∷◌, ◌++◌, length, get_or, take, drop, reverse, map, refl, ap, sym, ◌∙◌, arith, Option, Some, None}
+use Rattle.std.proofs.Common.{◌≡◌, ℕ, ◌+◌, ◌-◌, ◌≤◌, ◌<◌, Bool, true, false, ◌&&◌, List, [], ◌∷◌, ◌++◌, length, get_or, drop, reverse, refl, ap, sym, ◌∙◌, arith, Some, None}
 use Rattle.std.proofs.lemmas.List.{drop_more, drop_all, length-drop, length-reverse, reverse-append}
 use Rattle.typing_kit.specs.declared.operand.Operand.{Operand}
-use Rattle.typing_kit.specs.declared.operand.Operand.TheVariants.{Known, Bottom}
+use Rattle.typing_kit.specs.declared.operand.Operand.TheVariants.{Bottom}
 use Rattle.typing_kit.specs.Stack.{meets, fit}
-use Rattle.typing_kit.specs.Steps.{topmost, with_top}
+use Rattle.typing_kit.specs.Steps.{topmost}
 use Rattle.typing_kit.proofs.Lists.{at_from_end}
 
 module _ {T : Type 0} (sub : T → T → Bool) where
@@ -33,7 +33,7 @@ module _ {T : Type 0} (sub : T → T → Bool) where
     fit_turn =
         ap (λ b. b && fit sub dead (drop (k + 1) (reverse operands)) (drop (k + 1) (reverse wanted))) er
         ∙ sym (fit_more dead (reverse operands) (reverse wanted) k a t (omega (arith, length-reverse operands)) (omega (arith, length-reverse wanted))
-          (at_from_end operands k a ho ∙ sym ea) (at_from_end wanted k t hw ∙ sym et))
+        (at_from_end operands k a ho ∙ sym ea) (at_from_end wanted k t hw ∙ sym et))
         ∙ so_far
 
     pub fit_ends : r ≡ false → false ≡ whole

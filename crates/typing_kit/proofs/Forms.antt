@@ -1,19 +1,16 @@
 -- What each form leads to, and where an instruction of the form is stuck.
-use Rattle.std.proofs.Common.{◌≡◌, ℕ, suc, ◌+◌, ◌-◌, ◌≤◌, ◌<◌, ◌↔◌, Bool, true, false, ◌&&◌, List, [], ◌∷◌, ◌++◌, length, drop, reverse, map, refl, ap, sym, subst, ◌∙◌, arith, Option, Some, None}
-use Rattle.std.proofs.lemmas.List.{reverse-append, reverse-reverse, length-reverse, map-append}
-use Rattle.typing_kit.specs.declared.kind.Kind.{Kind}
-use Rattle.typing_kit.specs.declared.kind.Kind.TheVariants.{Plain}
+use Rattle.std.proofs.Common.{◌≡◌, Bool, true, false, List, [], ◌∷◌, ◌++◌, length, drop, reverse, ap, sym, subst, ◌∙◌}
+use Rattle.std.proofs.lemmas.List.{map-append}
 use Rattle.typing_kit.specs.declared.operand.Operand.{Operand}
-use Rattle.typing_kit.specs.declared.operand.Operand.TheVariants.{Known, Bottom}
-use Rattle.typing_kit.specs.Matching.{known, IsOf, Matches, AllMatch}
-use Rattle.typing_kit.specs.Form.{Form, Language, Untyped, Flat, Any, Select, Leaves, Table, Block, Choice}
+use Rattle.typing_kit.specs.declared.operand.Operand.TheVariants.{Known}
+use Rattle.typing_kit.specs.Matching.{known, AllMatch}
+use Rattle.typing_kit.specs.Form.{Language, Untyped, Flat, Block, Choice}
 use Rattle.typing_kit.specs.Typing.{Typed, TypedCode, flat, any, select, leaves, table, block, choice}
-use Rattle.typing_kit.specs.Stack.{meets, fit}
-use Rattle.typing_kit.specs.Steps.{topmost, joined}
-use Rattle.typing_kit.proofs.Lists.{map-reverse, reverse-cons}
-use Rattle.typing_kit.proofs.Laws.{Lawful, match_refl, match_trans, all_refl, all_reverse, is_of_below}
-use Rattle.typing_kit.proofs.Covering.{Covers, covers_append, covers_refl, fitted, covered, covers_rest, covers_topmost, covers_above}
-use Rattle.typing_kit.proofs.Leading.{From, Leads, Stuck, Best, best_leads, leaving_leads, stuck_by}
+use Rattle.typing_kit.specs.Stack.{fit}
+use Rattle.typing_kit.specs.Progress.{Covers, Leads, Stuck}
+use Rattle.typing_kit.proofs.Laws.{Lawful, all_refl}
+use Rattle.typing_kit.proofs.Covering.{covers_append, fitted, covered}
+use Rattle.typing_kit.proofs.Leading.{Best, best_leads, stuck_by}
 
 module _ {T I : Type 0} (L : Language T I) where
   -- it takes these types and leaves those, and no others

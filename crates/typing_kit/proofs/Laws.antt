@@ -1,10 +1,10 @@
 -- What the types of a version owe, and what follows for operands.
-use Rattle.std.proofs.Common.{◌≡◌, Bool, true, false, List, [], ◌∷◌, ◌++◌, length, reverse, map, refl, ap, sym, subst, ◌∙◌}
+use Rattle.std.proofs.Common.{◌≡◌, Bool, true, List, [], ◌∷◌, ◌++◌, reverse, refl, ap, sym, subst, ◌∙◌}
 use Rattle.typing_kit.specs.declared.kind.Kind.{Kind}
 use Rattle.typing_kit.specs.declared.kind.Kind.TheVariants.{Plain}
 use Rattle.typing_kit.specs.declared.operand.Operand.{Operand}
 use Rattle.typing_kit.specs.declared.operand.Operand.TheVariants.{Known, Bottom}
-use Rattle.typing_kit.specs.Matching.{known, IsOf, Matches, AllMatch}
+use Rattle.typing_kit.specs.Matching.{IsOf, Matches, AllMatch}
 use Rattle.typing_kit.specs.Form.{Language}
 use Rattle.typing_kit.proofs.Lists.{reverse-cons}
 

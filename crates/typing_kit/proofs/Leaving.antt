@@ -1,19 +1,20 @@
 -- The forms that nothing follows: leaving, and a table of labels.
-use Rattle.std.proofs.Common.{◌≡◌, ℕ, zero, suc, ◌↔◌, Bool, true, false, ◌&&◌, ◌==◌, List, [], ◌∷◌, ◌++◌, length, drop, reverse, map, refl, ap, sym, subst, ◌∙◌, arith, eq-eqb, Option, Some, None}
+use Rattle.std.proofs.Common.{◌≡◌, ℕ, zero, suc, Bool, true, false, ◌&&◌, ◌==◌, List, [], ◌∷◌, ◌++◌, length, drop, reverse, refl, ap, sym, subst, ◌∙◌, arith}
 use Rattle.std.specs.List.{AllByRecursion, list_all}
 use Rattle.std.proofs.lemmas.List.{reverse-append, reverse-reverse, length-reverse, append_assoc}
 use Rattle.std.proofs.lemmas.Bool.Decides.{nat_tests}
 use Rattle.typing_kit.specs.declared.operand.Operand.{Operand}
 use Rattle.typing_kit.specs.declared.operand.Operand.TheVariants.{Known, Bottom}
-use Rattle.typing_kit.specs.Matching.{known, Matches, AllMatch}
-use Rattle.typing_kit.specs.Form.{Form, Language, Untyped, Flat, Any, Select, Leaves, Table, Block, Choice}
+use Rattle.typing_kit.specs.Matching.{known, AllMatch}
+use Rattle.typing_kit.specs.Form.{Language, Leaves, Table}
 use Rattle.typing_kit.specs.Typing.{Typed, flat, any, select, leaves, table, block, choice}
 use Rattle.typing_kit.specs.Stack.{meets, fit}
 use Rattle.typing_kit.specs.Steps.{fit_label}
 use Rattle.typing_kit.proofs.Lists.{map-reverse}
+use Rattle.typing_kit.specs.Progress.{Covers, Leads, Stuck}
 use Rattle.typing_kit.proofs.Laws.{Lawful, match_refl, all_trans, all_split, all_reverse}
-use Rattle.typing_kit.proofs.Covering.{Covers, covers_refl, fitted, covered, same_length, both, first_of_both, second_of_both, meets_to}
-use Rattle.typing_kit.proofs.Leading.{Leads, Stuck, leaving_leads, stuck_by}
+use Rattle.typing_kit.proofs.Covering.{covers_refl, fitted, covered, same_length, both, first_of_both, second_of_both, meets_to}
+use Rattle.typing_kit.proofs.Leading.{leaving_leads, stuck_by}
 
 module _ {T I : Type 0} (L : Language T I) where
   record LeavesParts (takes : List T) (t : List (Operand T)) : Type 0 where
@@ -60,16 +61,16 @@ module _ {T I : Type 0} (L : Language T I) where
       leaves_lead f =
           let below = drop (length takes) s in
           leaving_leads L laws ls i dead s (reverse below ++ known takes)
-              (λ g. leaves ls i takes (reverse below) g form)
-              (subst (λ l. Covers L.sub dead s l) (sym (reverse-append (reverse below) (known takes) ∙ ap (λ l. reverse (known takes) ++ l) (reverse-reverse below)))
-              (covered L laws dead s takes below f (covers_refl L laws dead below)))
+          (λ g. leaves ls i takes (reverse below) g form)
+          (subst (λ l. Covers L.sub dead s l) (sym (reverse-append (reverse below) (known takes) ∙ ap (λ l. reverse (known takes) ++ l) (reverse-reverse below)))
+          (covered L laws dead s takes below f (covers_refl L laws dead below)))
 
       pub leaves_stuck : fit L.sub dead s (reverse takes) ≡ false → Stuck L ls i dead s
       leaves_stuck f = stuck_by L laws ls i dead s (λ t g o v d m c.
           (let p = leaves_parts takes d form in
           let q = all_split L.sub o p.below (known takes) (subst (λ l. AllMatch L.sub o l) p.is m) in
           let c' : Covers L.sub dead s (reverse q.back ++ (reverse q.front ++ v)) =
-              subst (λ l. Covers L.sub dead s l) (ap (λ l. reverse l ++ v) q.is ∙ ap (λ l. l ++ v) (reverse-append q.front q.back) ∙ append_assoc (reverse q.back) (reverse q.front) v) c in
+          subst (λ l. Covers L.sub dead s l) (ap (λ l. reverse l ++ v) q.is ∙ ap (λ l. l ++ v) (reverse-append q.front q.back) ∙ append_assoc (reverse q.back) (reverse q.front) v) c in
           let no : true ≡ false = sym (fitted L laws dead s takes q.back (reverse q.front ++ v) q.back_matches c').0 ∙ f in cc))
 
   -- the topmost operands, so many of them, with bot where the stack has no more
@@ -112,17 +113,18 @@ module _ {T I : Type 0} (L : Language T I) where
     labels_match : (dead : Bool) (s : List (Operand T)) (n : ℕ) (labels : List (List T)) → list_all (fit_label L.sub L.of_kind L.condition dead s n) labels ≡ true → AllByRecursion (λ label. AllMatch L.sub (reverse (padded n s)) (known label)) labels
     labels_match dead s n [] f = tt
     labels_match dead s n (label ∷ labels) f =
-        let this = first_of_both _ (list_all (fit_label L.sub L.of_kind L.condition dead s n) labels) f in
-        (label_matches dead s label n (equal_lengths (length label) n (first_of_both _ (fit L.sub dead s (reverse label)) this)) (second_of_both (length label == n) _ this),
-         labels_match dead s n labels (second_of_both (fit_label L.sub L.of_kind L.condition dead s n label) _ f))
+        let this = first_of_both _ (list_all (fit_label L.sub L.of_kind L.condition dead s n) labels) f in (
+          label_matches dead s label n (equal_lengths (length label) n (first_of_both _ (fit L.sub dead s (reverse label)) this)) (second_of_both (length label == n) _ this),
+          labels_match dead s n labels (second_of_both (fit_label L.sub L.of_kind L.condition dead s n label) _ f),
+        )
 
     -- operands that match each label fit each
     labels_fit : (dead : Bool) (s : List (Operand T)) (n : ℕ) (o takes v : List (Operand T)) (labels : List (List T)) → length takes ≡ n → AllMatch L.sub o takes → Covers L.sub dead s (reverse o ++ v) → AllByRecursion (λ label. AllMatch L.sub takes (known label)) labels → list_all (fit_label L.sub L.of_kind L.condition dead s n) labels ≡ true
     labels_fit dead s n o takes v [] e m c all = refl
     labels_fit dead s n o takes v (label ∷ labels) e m c all =
         both _ _
-            (both _ _ (lengths_equal (length label) n (sym (same_length L laws takes label all.0) ∙ e)) (fitted L laws dead s label o v (all_trans L laws o takes (known label) m all.0) c).0)
-            (labels_fit dead s n o takes v labels e m c all.1)
+        (both _ _ (lengths_equal (length label) n (sym (same_length L laws takes label all.0) ∙ e)) (fitted L laws dead s label o v (all_trans L laws o takes (known label) m all.0) c).0)
+        (labels_fit dead s n o takes v labels e m c all.1)
 
     module _ (ls : List (List T)) (i : I) (dead : Bool) (s : List (Operand T)) (last : List T) (others : List (List T)) (form : L.form ls i ≡ Table last others) where
       pub table_leads : fit L.sub dead s (L.condition ∷ []) ≡ true → fit L.sub dead (drop 1 s) (reverse last) ≡ true → list_all (fit_label L.sub L.of_kind L.condition dead (drop 1 s) (length last)) others ≡ true → Leads L ls i dead s true []
@@ -133,12 +135,12 @@ module _ {T I : Type 0} (L : Language T I) where
           let below = drop n r in
           let c : Covers L.sub dead r (taken ++ below) = subst (λ k. Covers L.sub dead r (padded k r ++ drop k r)) (length-reverse last) (padded_covers dead r (reverse last) g) in
           let turned : reverse (reverse below ++ (reverse taken ++ Known L.condition ∷ [])) ≡ Known L.condition ∷ (taken ++ below) =
-              reverse-append (reverse below) (reverse taken ++ Known L.condition ∷ [])
-              ∙ ap (λ l. l ++ reverse (reverse below)) (reverse-append (reverse taken) (Known L.condition ∷ []) ∙ ap (λ l. Known L.condition ∷ l) (reverse-reverse taken))
-              ∙ ap (λ l. (Known L.condition ∷ taken) ++ l) (reverse-reverse below) in
+          reverse-append (reverse below) (reverse taken ++ Known L.condition ∷ [])
+          ∙ ap (λ l. l ++ reverse (reverse below)) (reverse-append (reverse taken) (Known L.condition ∷ []) ∙ ap (λ l. Known L.condition ∷ l) (reverse-reverse taken))
+          ∙ ap (λ l. (Known L.condition ∷ taken) ++ l) (reverse-reverse below) in
           leaving_leads L laws ls i dead s (reverse below ++ (reverse taken ++ Known L.condition ∷ []))
-              (λ after. table ls i last others (reverse taken) (reverse below) after form (label_matches dead r last n refl g) (labels_match dead r n others h))
-              (subst (λ l. Covers L.sub dead s l) (sym turned) (covered L laws dead s (L.condition ∷ []) (taken ++ below) f c))
+          (λ after. table ls i last others (reverse taken) (reverse below) after form (label_matches dead r last n refl g) (labels_match dead r n others h))
+          (subst (λ l. Covers L.sub dead s l) (sym turned) (covered L laws dead s (L.condition ∷ []) (taken ++ below) f c))
 
       pub table_fits : (t g o v : List (Operand T)) → Typed L ls i t g → AllMatch L.sub o t → Covers L.sub dead s (reverse o ++ v) → (fit L.sub dead s (L.condition ∷ []) && fit L.sub dead (drop 1 s) (reverse last) && list_all (fit_label L.sub L.of_kind L.condition dead (drop 1 s) (length last)) others) ≡ true
       table_fits t g o v d m c =
@@ -147,8 +149,8 @@ module _ {T I : Type 0} (L : Language T I) where
           let r = all_split L.sub q.back p.takes (Known L.condition ∷ []) q.back_matches in
           let v' = reverse q.front ++ v in
           let turned : reverse o ++ v ≡ reverse r.back ++ (reverse r.front ++ v') =
-              ap (λ l. reverse l ++ v) q.is ∙ ap (λ l. l ++ v) (reverse-append q.front q.back) ∙ append_assoc (reverse q.back) (reverse q.front) v
-              ∙ ap (λ l. reverse l ++ v') r.is ∙ ap (λ l. l ++ v') (reverse-append r.front r.back) ∙ append_assoc (reverse r.back) (reverse r.front) v' in
+          ap (λ l. reverse l ++ v) q.is ∙ ap (λ l. l ++ v) (reverse-append q.front q.back) ∙ append_assoc (reverse q.back) (reverse q.front) v
+          ∙ ap (λ l. reverse l ++ v') r.is ∙ ap (λ l. l ++ v') (reverse-append r.front r.back) ∙ append_assoc (reverse r.back) (reverse r.front) v' in
           let top = fitted L laws dead s (L.condition ∷ []) r.back (reverse r.front ++ v') r.back_matches (subst (λ l. Covers L.sub dead s l) turned c) in
           let at_last = fitted L laws dead (drop 1 s) last r.front v' (all_trans L laws r.front p.takes (known last) r.front_matches p.last_matches) top.1 in
           both _ _ (both _ _ top.0 at_last.0) (labels_fit dead (drop 1 s) (length last) r.front p.takes v' others (same_length L laws p.takes last p.last_matches) r.front_matches top.1 p.others_match)

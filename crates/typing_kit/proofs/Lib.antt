@@ -8,3 +8,4 @@ pub mod Forms
 pub mod Open
 pub mod Leaving
 pub mod Stepping
+pub mod Values

@@ -1,6 +1,6 @@
 -- Lists that are read from their end.
-use Rattle.std.proofs.Common.{◌≡◌, ℕ, suc, ◌+◌, ◌-◌, ◌≤◌, ◌<◌, min, List, [], ◌∷◌, ◌++◌, length, get_or, take, drop, reverse, map, refl, ap, sym, ◌∙◌, arith, inl, inr, ◌⊎◌}
-use Rattle.std.proofs.lemmas.List.{reverse-append, length-reverse, take-append-drop, drop_at, drop_all, length-drop, drop-take, length-take, get_or-reverse, take-append-le, drop-append-le, take-take, map-append}
+use Rattle.std.proofs.Common.{◌≡◌, ℕ, ◌+◌, ◌-◌, ◌≤◌, ◌<◌, min, List, [], ◌∷◌, ◌++◌, length, get_or, take, drop, reverse, map, refl, ap, sym, ◌∙◌, arith}
+use Rattle.std.proofs.lemmas.List.{reverse-append, length-reverse, take-append-drop, drop_at, drop_all, length-drop, drop-take, get_or-reverse, drop-append-le, take-take, map-append}
 use native.Mathlib.Decide.{dec_le}
 
 module _ {X : Type 0} where
@@ -15,10 +15,10 @@ module _ {X : Type 0} where
   -- without its last ones, from the end
   pub reversed_rest : (n : ℕ) (xs : List X) → drop n (reverse xs) ≡ reverse (take (length xs - n) xs)
   reversed_rest n xs = elim (dec_le n (length xs)) [
-    yes h ↦ reversed_rest_within n xs h
+    | yes h ↦ reversed_rest_within n xs h
     | no h ↦
-      let none : length xs - n ≡ 0 = omega arith in
-      drop_all n (reverse xs) (omega (arith, length-reverse xs)) ∙ ap (λ k. reverse (take k xs)) (sym none)
+        let none : length xs - n ≡ 0 = omega arith in
+        drop_all n (reverse xs) (omega (arith, length-reverse xs)) ∙ ap (λ k. reverse (take k xs)) (sym none)
   ]
 
   pub reverse-cons : (x : X) (xs : List X) → reverse (x ∷ xs) ≡ reverse xs ++ x ∷ []

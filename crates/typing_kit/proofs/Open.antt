@@ -1,17 +1,18 @@
 -- The forms that leave a type open: one operand of a kind, and select.
-use Rattle.std.proofs.Common.{◌≡◌, ℕ, suc, ◌↔◌, Bool, true, false, ◌&&◌, List, [], ◌∷◌, ◌++◌, length, drop, reverse, map, refl, ap, sym, subst, ◌∙◌, Option, Some, None}
+use Rattle.std.proofs.Common.{◌≡◌, Bool, true, false, ◌&&◌, List, [], ◌∷◌, ◌++◌, drop, reverse, refl, ap, sym, subst, ◌∙◌, Option, Some, None}
 use Rattle.typing_kit.specs.declared.kind.Kind.{Kind}
 use Rattle.typing_kit.specs.declared.kind.Kind.TheVariants.{Plain}
 use Rattle.typing_kit.specs.declared.operand.Operand.{Operand}
 use Rattle.typing_kit.specs.declared.operand.Operand.TheVariants.{Known, Bottom}
 use Rattle.typing_kit.specs.Matching.{known, IsOf, Matches, AllMatch}
-use Rattle.typing_kit.specs.Form.{Form, Language, Untyped, Flat, Any, Select, Leaves, Table, Block, Choice}
+use Rattle.typing_kit.specs.Form.{Language, Any, Select}
 use Rattle.typing_kit.specs.Typing.{Typed, flat, any, select, leaves, table, block, choice}
 use Rattle.typing_kit.specs.Stack.{fit}
 use Rattle.typing_kit.specs.Steps.{topmost, joined, is_of, agree}
+use Rattle.typing_kit.specs.Progress.{Covers, Leads, Stuck}
 use Rattle.typing_kit.proofs.Laws.{Lawful, match_refl, match_trans, all_refl, is_of_below}
-use Rattle.typing_kit.proofs.Covering.{Covers, Above, covers_append, covers_rest, covers_topmost, covers_above, fitted, covered}
-use Rattle.typing_kit.proofs.Leading.{Leads, Stuck, Best, best_leads, stuck_by}
+use Rattle.typing_kit.proofs.Covering.{covers_append, covers_rest, covers_topmost, covers_above, fitted, covered}
+use Rattle.typing_kit.proofs.Leading.{Best, best_leads, stuck_by}
 
 all_four : (a b c d : Bool) → a ≡ true → b ≡ true → c ≡ true → d ≡ true → (a && b && c && d) ≡ true
 all_four a b c d p q r s = ap (λ x. x && b && c && d) p ∙ ap (λ x. x && c && d) q ∙ ap (λ x. x && d) r ∙ s
@@ -102,9 +103,11 @@ module _ {T I : Type 0} (L : Language T I) where
           let q = one_of o p.operand (subst (λ l. AllMatch L.sub o l) p.takes_is m) in
           let c' : Covers L.sub dead s (q.operand ∷ v) = subst (λ l. Covers L.sub dead s (reverse l ++ v)) q.is c in
           let u = covers_above L.sub dead s q.operand v c' in
-          let same : u.operand ≡ a = (let both : Some u.operand ≡ Some a = sym u.is ∙ e in cc) in
-          (is_of_below L laws kind a p.operand (match_trans L laws a q.operand p.operand (subst (λ x. Matches L.sub x q.operand) same u.matches) q.matches) p.of_kind,
-           covers_rest L.sub dead s q.operand v c', p.gives_is)
+          let same : u.operand ≡ a = (let both : Some u.operand ≡ Some a = sym u.is ∙ e in cc) in (
+            is_of_below L laws kind a p.operand (match_trans L laws a q.operand p.operand (subst (λ x. Matches L.sub x q.operand) same u.matches) q.matches) p.of_kind,
+            covers_rest L.sub dead s q.operand v c',
+            p.gives_is,
+          )
 
       any_best : (a : Operand T) → topmost dead s ≡ Some a → IsOf (L.of_kind kind) a → Best L laws ls i dead s (drop 1 s) (a ∷ []) (known gives)
       any_best a e k = record {

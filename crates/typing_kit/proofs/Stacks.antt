@@ -1,9 +1,7 @@
 -- The stack that a list of operands, a base and a mark stand for, and how it changes with them.
-use Rattle.std.proofs.Common.{◌≡◌, ℕ, suc, ◌+◌, ◌-◌, ◌≤◌, ◌<◌, min, Bool, true, false, List, [], ◌∷◌, ◌++◌, length, get_or, take, drop, reverse, map, refl, ap, sym, ◌∙◌, arith, Option, Some, None}
+use Rattle.std.proofs.Common.{◌≡◌, ℕ, ◌-◌, ◌≤◌, ◌<◌, min, Bool, List, [], ◌++◌, length, get_or, take, drop, reverse, ap, sym, ◌∙◌, arith, Some}
 use Rattle.std.proofs.lemmas.List.{take-append-le, drop_all, drop_more, length-drop, length-reverse, get_or-drop}
 use Rattle.typing_kit.specs.declared.operand.Operand.{Operand}
-use Rattle.typing_kit.specs.declared.operand.Operand.TheVariants.{Known, Bottom}
-use Rattle.typing_kit.specs.Matching.{known}
 use Rattle.typing_kit.specs.Stack.{Stack}
 use Rattle.typing_kit.specs.Steps.{topmost}
 use Rattle.typing_kit.proofs.Lists.{above_taken, below_taken, above_appended, at_from_end}

@@ -1,5 +1,5 @@
 -- A step over the plan of an instruction is right.
-use Rattle.std.proofs.Common.{◌≡◌, ℕ, suc, ◌↔◌, Bool, true, false, cond, ◌&&◌, List, [], ◌∷◌, ◌++◌, length, drop, reverse, map, refl, ap, sym, subst, ◌∙◌, Option, Some, None}
+use Rattle.std.proofs.Common.{◌≡◌, Bool, true, false, cond, ◌&&◌, List, [], ◌∷◌, length, drop, reverse, map, refl, sym, subst, ◌∙◌, Option, Some, None}
 use Rattle.std.specs.List.{list_all}
 use Rattle.typing_kit.specs.declared.kind.Kind.{Kind}
 use Rattle.typing_kit.specs.declared.kind.Kind.TheVariants.{Plain}
@@ -8,14 +8,14 @@ use Rattle.typing_kit.specs.declared.plan.Plan.{Plan}
 use Rattle.typing_kit.specs.declared.plan.Plan.TheVariants as plans
 use Rattle.typing_kit.specs.declared.plan.Met.{Met}
 use Rattle.typing_kit.specs.declared.plan.Met.TheVariants as mets
-use Rattle.typing_kit.specs.Matching.{known}
 use Rattle.typing_kit.specs.Form.{Form, Language}
 use Rattle.typing_kit.specs.Form as forms
 use Rattle.typing_kit.specs.Stack.{Stack, fit}
 use Rattle.typing_kit.specs.Steps.{with_top, IsPlanOf, IsLeaf, stepped, flat_step, any_step, select_step, leave_step, table_step, topmost, is_of, agree, joined, took, left, fit_label}
+use Rattle.typing_kit.specs.Progress.{Leads, Stuck}
 use Rattle.typing_kit.proofs.Laws.{Lawful}
 use Rattle.typing_kit.proofs.Covering.{first_of_both, second_of_both}
-use Rattle.typing_kit.proofs.Leading.{Leads, Stuck, stuck_by}
+use Rattle.typing_kit.proofs.Leading.{stuck_by}
 use Rattle.typing_kit.proofs.Forms.{flat_exactly, exactly_leads, exactly_stuck, untyped_stuck}
 use Rattle.typing_kit.proofs.Open.{any_leads, any_not_of, any_none, select_leads, select_fits, select_lacks_first, select_lacks_second}
 use Rattle.typing_kit.proofs.Leaving.{leaves_lead, leaves_stuck, table_leads, table_fits}
@@ -45,6 +45,7 @@ module _ {T I : Type 0} (L : Language T I) (laws : Lawful L) (ls : List (List T)
       of : (a : Operand T) → topmost s.dead s.top ≡ Some a → (b : Bool) → is_of L.sub L.of_kind L.condition kind a ≡ b → Goes s (cond b (mets.One a, took 1 gives s) (mets.Untyped, s))
       of a e true k = any_leads L laws ls i s.dead s.top kind gives form a e k
       of a e false k = any_not_of L laws ls i s.dead s.top kind gives form a e k
+
       go : (o : Option (Operand T)) → topmost s.dead s.top ≡ o → Goes s (any_step L.sub L.of_kind L.condition kind gives s o)
       go None e = any_none L laws ls i s.dead s.top kind gives form e
       go (Some a) e = of a e (is_of L.sub L.of_kind L.condition kind a) refl
@@ -62,6 +63,7 @@ module _ {T I : Type 0} (L : Language T I) (laws : Lawful L) (ls : List (List T)
           select_leads L laws ls i s.dead s.top form a b p q (first_of_both _ (is_of L.sub L.of_kind L.condition Plain a) e2) (second_of_both (fit L.sub s.dead s.top (L.condition ∷ [])) _ e2) kb ag
       of a b p q false e = stuck_by L laws ls i s.dead s.top (λ t g o v d m c.
           (let no : true ≡ false = sym (select_fits L laws ls i s.dead s.top form a b p q t g o v d m c) ∙ e in cc))
+
       go : (x y : Option (Operand T)) → topmost s.dead (drop 2 s.top) ≡ x → topmost s.dead (drop 1 s.top) ≡ y → Goes s (select_step L.sub L.of_kind L.condition s x y)
       go None y p q = select_lacks_first L laws ls i s.dead s.top form p
       go (Some a) None p q = select_lacks_second L laws ls i s.dead s.top form q
@@ -83,8 +85,8 @@ module _ {T I : Type 0} (L : Language T I) (laws : Lawful L) (ls : List (List T)
       go true e =
           let e2 = first_of_both (fit L.sub s.dead s.top (L.condition ∷ []) && fit L.sub s.dead (drop 1 s.top) (reverse last)) (list_all (fit_label L.sub L.of_kind L.condition s.dead (drop 1 s.top) (length last)) others) e in
           table_leads L laws ls i s.dead s.top last others form
-              (first_of_both _ (fit L.sub s.dead (drop 1 s.top) (reverse last)) e2) (second_of_both (fit L.sub s.dead s.top (L.condition ∷ [])) _ e2)
-              (second_of_both (fit L.sub s.dead s.top (L.condition ∷ []) && fit L.sub s.dead (drop 1 s.top) (reverse last)) _ e)
+          (first_of_both _ (fit L.sub s.dead (drop 1 s.top) (reverse last)) e2) (second_of_both (fit L.sub s.dead s.top (L.condition ∷ [])) _ e2)
+          (second_of_both (fit L.sub s.dead s.top (L.condition ∷ []) && fit L.sub s.dead (drop 1 s.top) (reverse last)) _ e)
       go false e = stuck_by L laws ls i s.dead s.top (λ t g o v d m c.
           (let no : true ≡ false = sym (table_fits L laws ls i s.dead s.top last others form t g o v d m c) ∙ e in cc))
 

@@ -4,3 +4,5 @@ pub mod Typing
 pub mod Leaf
 pub mod Stack
 pub mod Steps
+pub mod Bottomless
+pub mod Progress

@@ -1,5 +1,5 @@
 -- The stack of operands that an algorithm keeps, and when it fits types.
-use Rattle.std.specs.Prelude.{Bool, true, false, ◌&&◌, nat_le, List, [], ◌∷◌, length}
+use Rattle.std.specs.Prelude.{Bool, true, ◌&&◌, nat_le, List, [], ◌∷◌, length}
 use Rattle.typing_kit.specs.declared.operand.Operand.{Operand}
 use Rattle.typing_kit.specs.declared.operand.Operand.TheVariants.{Known, Bottom}
 

@@ -1,7 +1,6 @@
 -- What typing of an instruction does to the stack of operands, by its plan.
 use Rattle.std.specs.Prelude.{◌≡◌, ℕ, Bool, true, false, cond, ◌&&◌, ◌==◌, List, [], ◌∷◌, ◌++◌, length, drop, reverse, map, Option, Some, None}
 use Rattle.std.specs.List.{list_all}
-use Rattle.std.specs.Borrow.{Bor}
 use Rattle.typing_kit.specs.declared.kind.Kind.{Kind}
 use Rattle.typing_kit.specs.declared.kind.Kind.TheVariants.{Plain}
 use Rattle.typing_kit.specs.declared.operand.Operand.{Operand}
@@ -11,7 +10,7 @@ use Rattle.typing_kit.specs.declared.plan.Plan.TheVariants as plans
 use Rattle.typing_kit.specs.declared.plan.Met.{Met}
 use Rattle.typing_kit.specs.declared.plan.Met.TheVariants.{Untyped, Planned, One}
 use Rattle.typing_kit.specs.Matching.{known}
-use Rattle.typing_kit.specs.Stack.{Stack, meets, fit}
+use Rattle.typing_kit.specs.Stack.{Stack, fit}
 use Rattle.typing_kit.specs.Form.{Form}
 use Rattle.typing_kit.specs.Form as forms
 

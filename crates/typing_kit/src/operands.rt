@@ -135,11 +135,7 @@ pub fn fits<V: ValueTypes>(operands: &Operands<V::Type>, skip: usize, wanted: &[
 {
     let own = operands.items.len() - operands.base;
     let end = operands.items.len() - own.min(skip);
-    fit::<V>(
-        operands.dead,
-        &operands.items[operands.base..end],
-        wanted,
-    )
+    fit::<V>(operands.dead, &operands.items[operands.base..end], wanted)
 }
 
 /// Whether the operands of the innermost block, all of them, may stand where the types are asked for.

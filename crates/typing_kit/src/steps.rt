@@ -3,8 +3,8 @@ ghost use Rattle.std.specs.List.{list_all};
 ghost use Rattle.typing_kit.specs.Stack.{fit};
 ghost use Rattle.typing_kit.specs.Steps.{with_top, is_of, agree, joined, IsLeaf, fit_label, flat_step, any_step, select_step, leave_step, table_step, stepped, topmost};
 
-use crate::matching::meets;
 use crate::kind::Kind;
+use crate::matching::meets;
 use crate::operand::Operand;
 use crate::operands::{Operands, fits};
 use crate::plan::{Met, Plan};
@@ -104,9 +104,7 @@ fn step_any<V: ValueTypes>(
 }
 
 /// Takes a condition and two plain operands of one type, and leaves one of them.
-fn step_select<V: ValueTypes>(
-    operands: &mut Operands<V::Type>,
-) -> Result<Met<V::Type>, AllocError>
+fn step_select<V: ValueTypes>(operands: &mut Operands<V::Type>) -> Result<Met<V::Type>, AllocError>
     ensures { IfOk result (λ met. (met, operands.new) ≡ select_step V.sub V.of_kind V.condition operands.old (topmost operands.old.dead (drop 2 operands.old.top)) (topmost operands.old.dead (drop 1 operands.old.top))) }
 {
     let (Some(first), Some(second)) = (operands.peek(2), operands.peek(1)) else {

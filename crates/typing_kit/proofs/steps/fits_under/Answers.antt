@@ -1,4 +1,4 @@
-use Rattle.std.proofs.Common.{ap, ◌∙◌, sym, ◌≡◌, ◌&&◌, drop, reverse, true, [], ◌∷◌}
+use Rattle.std.proofs.Common.{ap, ◌∙◌, sym, ◌&&◌, drop, reverse}
 use Rattle.typing_kit.specs.Stack.{fit}
 use Rattle.typing_kit.specs.Steps.{with_top}
 use Rattle.typing_kit.proofs.Fitting.{fit_under}

@@ -1,4 +1,4 @@
-use Rattle.std.proofs.Common.{ap, ◌∙◌, sym, drop, arith, length, ◌≡◌, ◌-◌, ◌≤◌, ◌<◌, get_or}
+use Rattle.std.proofs.Common.{ap, ◌∙◌, sym, drop, arith, get_or}
 use Rattle.typing_kit.specs.Stack.{Stack}
 use Rattle.typing_kit.specs.Steps.{topmost}
 use Rattle.typing_kit.proofs.Stacks.{topmost-within}

@@ -1,4 +1,4 @@
-use Rattle.std.proofs.Common.{ap, ◌∙◌, drop, arith, length, min, ◌≡◌, ◌-◌, ◌≤◌}
+use Rattle.std.proofs.Common.{ap, ◌∙◌, drop, arith}
 use Rattle.typing_kit.specs.Stack.{Stack}
 use Rattle.typing_kit.proofs.Stacks.{stack-take}
 use Rattle.typing_kit.proofs.operands.Operands.take.Goals as goal
