@@ -14,7 +14,7 @@ use Rattle.typing_kit.specs.declared.operand.Operand.{Operand}
 use Rattle.typing_kit.specs.Typing as typing
 use Rattle.typing_kit.specs.Typing.{Typed, TypedCode}
 use Rattle.typed_trees.specs.Contexts.{Context}
-use Rattle.typed_trees.specs.Forms.{Shape, form, layer_form, language}
+use Rattle.typed_trees.specs.Forms.{InstrForm, form, layer_form, language}
 use Rattle.typed_trees.specs.Matching.{matches}
 use Rattle.typed_trees.specs.Trees.{with_bodies, erase, erase_layer, erased, leaves, EndsAs, TypedNode, TypedNodes, plain, block, choice, none, more, last, head_of, takes_of, gives_of, first_of, second_of}
 use Rattle.typed_trees.proofs.LeafTyped.{known_append, typed_leaf, typed_leaving, IsLeaving}
@@ -32,7 +32,7 @@ form_erased c ls n =
     ∙ refilled c ls (out-Instr (head_of n)) (erased (first_of n)) (erased (second_of n))
 
 -- a form that fits a leaf has no bodies to fill
-refill_leaf : (c : Context) (f : Shape) (takes gives : List Ty) (first second : List Instr) → FitsLeaf (language c) f takes gives → refill f first second ≡ f
+refill_leaf : (c : Context) (f : InstrForm) (takes gives : List Ty) (first second : List Instr) → FitsLeaf (language c) f takes gives → refill f first second ≡ f
 refill_leaf c (Block label a b code) takes gives first second h = absurd h
 refill_leaf c (Choice label a b code other) takes gives first second h = absurd h
 refill_leaf c _ takes gives first second h = refl

@@ -5,7 +5,7 @@ use Rattle.wasm_ast.specs.declared.module.ty.FuncType.{FuncType}
 use Rattle.wasm_ast.specs.declared.module.code.Instr.{Instr}
 use Rattle.wasm_ast.specs.declared.module.code.Instr.TheOpen.{Instr-F}
 use Rattle.typed_trees.specs.Contexts.{Context}
-use Rattle.typed_trees.specs.Forms.{Shape, where_some, where_true, layer_form, tail_form, language}
+use Rattle.typed_trees.specs.Forms.{InstrForm, where_some, where_true, layer_form, tail_form, language}
 use Rattle.typed_trees.specs.Trees.{leaves_layer}
 use Rattle.typed_trees.proofs.LeafTyped.{IsLeaving}
 
@@ -17,11 +17,11 @@ clash : false ≡ true → ⊥
 clash h = subst (λ b. is_true (elim b as (λ x. Bool) [ true ↦ false | false ↦ true ])) h tt
 
 module _ (c : Context) where
-  leaving_some : {X : Type 0} (o : Option X) (f : X → Shape) → ((x : X) → IsLeaving (language c) (f x)) → IsLeaving (language c) (where_some o f)
+  leaving_some : {X : Type 0} (o : Option X) (f : X → InstrForm) → ((x : X) → IsLeaving (language c) (f x)) → IsLeaving (language c) (where_some o f)
   leaving_some None f h = tt
   leaving_some (Some x) f h = h x
 
-  leaving_true : (b : Bool) (f : Shape) → IsLeaving (language c) f → IsLeaving (language c) (where_true b f)
+  leaving_true : (b : Bool) (f : InstrForm) → IsLeaving (language c) f → IsLeaving (language c) (where_true b f)
   leaving_true true f h = h
   leaving_true false f h = tt
 

@@ -9,39 +9,39 @@ use Rattle.wasm_ast.specs.declared.module.code.Instr.TheOpen.{Instr-F}
 use Rattle.typing_kit.specs.Form.{Form, Untyped, Flat, Any, Select, Leaves, Table, Block, Choice}
 use Rattle.typed_trees.specs.Contexts.{Context, block_type}
 use Rattle.std.specs.List.{list_all}
-use Rattle.typed_trees.specs.Forms.{Shape, clause_fits, try_form, where_some, where_true, layer_form, op_form, block_form, loop_form, if_form, select_form, ref_func_form, tail_form}
+use Rattle.typed_trees.specs.Forms.{InstrForm, clause_fits, try_form, where_some, where_true, layer_form, op_form, block_form, loop_form, if_form, select_form, ref_func_form, tail_form}
 use Rattle.typed_trees.specs.Trees.{with_bodies}
 
 -- a form with these bodies in place of its own
-abbrev pub refill : Shape → List Instr → List Instr → Shape
+abbrev pub refill : InstrForm → List Instr → List Instr → InstrForm
 refill (Block label a b code) first second = Block label a b first
 refill (Choice label a b code other) first second = Choice label a b first second
 refill f first second = f
 
 -- a form without bodies
-abbrev pub Bare : Shape → Type 0
+abbrev pub Bare : InstrForm → Type 0
 Bare (Block label a b code) = ⊥
 Bare (Choice label a b code other) = ⊥
 Bare _ = Unit {0}
 
-refill_bare : (f : Shape) (first second : List Instr) → Bare f → f ≡ refill f first second
+refill_bare : (f : InstrForm) (first second : List Instr) → Bare f → f ≡ refill f first second
 refill_bare (Block label a b code) first second h = absurd h
 refill_bare (Choice label a b code other) first second h = absurd h
 refill_bare _ first second h = refl
 
-bare_some : {X : Type 0} (o : Option X) (f : X → Shape) → ((x : X) → Bare (f x)) → Bare (where_some o f)
+bare_some : {X : Type 0} (o : Option X) (f : X → InstrForm) → ((x : X) → Bare (f x)) → Bare (where_some o f)
 bare_some None f h = tt
 bare_some (Some x) f h = h x
 
-bare_true : (b : Bool) (f : Shape) → Bare f → Bare (where_true b f)
+bare_true : (b : Bool) (f : InstrForm) → Bare f → Bare (where_true b f)
 bare_true true f h = h
 bare_true false f h = tt
 
-refill_some : (o : Option FuncType) (f g : FuncType → Shape) (first second : List Instr) → ((t : FuncType) → g t ≡ refill (f t) first second) → where_some o g ≡ refill (where_some o f) first second
+refill_some : (o : Option FuncType) (f g : FuncType → InstrForm) (first second : List Instr) → ((t : FuncType) → g t ≡ refill (f t) first second) → where_some o g ≡ refill (where_some o f) first second
 refill_some None f g first second h = refl
 refill_some (Some t) f g first second h = h t
 
-refill_true : (b : Bool) (f g : Shape) (first second : List Instr) → g ≡ refill f first second → where_true b g ≡ refill (where_true b f) first second
+refill_true : (b : Bool) (f g : InstrForm) (first second : List Instr) → g ≡ refill f first second → where_true b g ≡ refill (where_true b f) first second
 refill_true true f g first second h = h
 refill_true false f g first second h = refl
 

@@ -1,9 +1,10 @@
 -- What each instruction of 3.0 takes and gives, in the order of chapter 3 of the standard, "Instructions". An instruction
 -- that no rule types in its context is untyped.
-use Rattle.std.specs.Prelude.{ℕ, Bool, true, false, ◌&&◌, ◌||◌, List, [], ◌∷◌, ◌++◌, nat_lt, nat_le, ◌^◌, Option, Some, None, slice_get}
+use Rattle.std.specs.Prelude.{ℕ, Bool, true, false, if◌then◌else◌, ◌&&◌, ◌||◌, List, [], ◌∷◌, ◌++◌, nat_lt, nat_le, ◌^◌, Option, Some, None, option_map, option_and_then, slice_get}
 use Rattle.std.specs.List.{list_all}
 use Rattle.num_core.specs.Accesses.{load_width, load_bytes, store_width, store_bytes}
 use Rattle.num_core.specs.Integers.{width_from, width_to}
+use Rattle.lane_core.specs.declared.vector.Shape.{Shape}
 use Rattle.lane_core.specs.Shapes.{lane_count, lane_bytes, extract_shape, lane_load_bytes}
 use Rattle.wasm_ast.specs.declared.module.ty.Ty.{Ty}
 use Rattle.wasm_ast.specs.declared.module.ty.Ty.TheVariants as types
@@ -26,15 +27,15 @@ use Rattle.typed_trees.specs.Matching.{matches, all_match}
 use Rattle.typed_trees.specs.Operands.{int_type, lane_type}
 
 -- the form of an instruction of this language
-abbrev pub Shape : Type 0
-Shape = Form Ty Instr
+abbrev pub InstrForm : Type 0
+InstrForm = Form Ty Instr
 
 -- a form that asks for what is not there, or for a condition that does not hold
-abbrev pub where_some : {X : Type 0} → Option X → (X → Shape) → Shape
+abbrev pub where_some : {X : Type 0} → Option X → (X → InstrForm) → InstrForm
 where_some None f = Untyped
 where_some (Some x) f = f x
 
-abbrev pub where_true : Bool → Shape → Shape
+abbrev pub where_true : Bool → InstrForm → InstrForm
 where_true true f = f
 where_true false f = Untyped
 
@@ -48,18 +49,18 @@ labels_at ls [] = Some []
 labels_at ls (x ∷ xs) = both_labels (slice_get ls x) (labels_at ls xs)
 
 -- "Parametric Instructions": the one type of a typed select
-abbrev pub select_form : List Ty → Shape
+abbrev pub select_form : List Ty → InstrForm
 select_form (t ∷ []) = where_true (is_value_type t) (Flat (t ∷ (t ∷ (types.I32 ∷ []))) (t ∷ []))
 select_form _ = Untyped
 
 -- "Control Instructions": blocks
-abbrev pub block_form : FuncType → List Instr → Shape
+abbrev pub block_form : FuncType → List Instr → InstrForm
 block_form t code = Block t.results t.params t.results code
 
-abbrev pub loop_form : FuncType → List Instr → Shape
+abbrev pub loop_form : FuncType → List Instr → InstrForm
 loop_form t code = Block t.params t.params t.results code
 
-abbrev pub if_form : FuncType → List Instr → List Instr → Shape
+abbrev pub if_form : FuncType → List Instr → List Instr → InstrForm
 if_form t first second = Choice t.results t.params t.results first second
 
 -- "Catch Clauses": the label, counted from outside the try_table, takes what the clause hands on
@@ -80,7 +81,7 @@ clause_fits c ls (catches.TagRef x l) = payload_fits (tag_type c x) (λ ts. labe
 clause_fits c ls (catches.All l) = label_takes ls l []
 clause_fits c ls (catches.AllRef l) = label_takes ls l (types.Exn ∷ [])
 
-abbrev pub try_form : Context → List (List Ty) → List Catch → FuncType → List Instr → Shape
+abbrev pub try_form : Context → List (List Ty) → List Catch → FuncType → List Instr → InstrForm
 try_form c ls clauses t code = where_true (list_all (clause_fits c ls) clauses) (block_form t code)
 
 -- a table whose references are functions
@@ -88,45 +89,54 @@ abbrev pub holds_functions : Option Ty → Bool
 holds_functions (Some t) = matches t types.Func
 holds_functions None = false
 
-abbrev pub is_function_table : Context → ℕ → Bool
-is_function_table c x = holds_functions (slice_get c.tables x)
+-- the type by which such a table is called
+abbrev pub indirect_type : Context → ℕ → ℕ → Option FuncType
+indirect_type c x table = if holds_functions (slice_get c.tables table) then slice_get c.types x else None
 
 -- tail calls: the results of the function that is called are those of the caller
-abbrev pub tail_form : Option (List Ty) → FuncType → List Ty → Shape
+abbrev pub tail_form : Option (List Ty) → FuncType → List Ty → InstrForm
 tail_form (Some returns) t takes = where_true (all_match t.results returns) (Leaves takes)
 tail_form None t takes = Untyped
 
 -- "Variable Instructions"
-abbrev pub set_form : GlobalType → Shape
+abbrev pub set_form : GlobalType → InstrForm
 set_form g = where_true g.mutable (Flat (g.ty ∷ []) [])
 
 -- "Table Instructions": copies between a table and a table or an element segment
-abbrev pub copy_form : Ty → Ty → Shape
+abbrev pub copy_form : Ty → Ty → InstrForm
 copy_form to from = where_true (matches from to) (Flat (types.I32 ∷ (types.I32 ∷ (types.I32 ∷ []))) [])
 
 -- "Memory Instructions": the alignment is at most the natural one, and the offset an address of the memory
 abbrev pub is_access : Limits → MemArg → ℕ → Bool
 is_access l arg bytes = nat_le (2 ^ arg.align) bytes && (l.wide || nat_lt arg.offset (2 ^ 32))
 
-abbrev pub access_form : Context → MemArg → ℕ → (Ty → Shape) → Shape
-access_form c arg bytes f =
-    where_some (slice_get c.memories arg.memory) (λ l. where_true (is_access l arg bytes) (f (address_type l)))
+-- the type of an address, where an access of so many bytes is one of the memory
+abbrev pub access_at : MemArg → ℕ → Limits → Option Ty
+access_at arg bytes l = if is_access l arg bytes then Some (address_type l) else None
 
-abbrev pub memory_form : Context → ℕ → (Ty → Shape) → Shape
-memory_form c x f = where_some (slice_get c.memories x) (λ l. f (address_type l))
+abbrev pub accessed : Context → MemArg → ℕ → Option Ty
+accessed c arg bytes = option_and_then (access_at arg bytes) (slice_get c.memories arg.memory)
+
+-- the same of an access to one lane, where the shape has it
+abbrev pub lane_accessed : Context → Shape → MemArg → ℕ → Option Ty
+lane_accessed c shape arg lane = if nat_lt lane (lane_count shape) then accessed c arg (lane_bytes shape) else None
+
+-- the type of an address of a memory
+abbrev pub addressed : Context → ℕ → Option Ty
+addressed c x = option_map address_type (slice_get c.memories x)
 
 -- the length of a copy between memories has 64 bits only where both have addresses of 64 bits
-abbrev pub memory_copy_form : Limits → Limits → Shape
+abbrev pub memory_copy_form : Limits → Limits → InstrForm
 memory_copy_form to from =
     Flat (address_type to ∷ (address_type from ∷ (address_of (to.wide && from.wide) ∷ []))) []
 
 -- "Reference Instructions": ref.func names a function that occurs outside bodies
-abbrev pub ref_func_form : Context → ℕ → Shape
+abbrev pub ref_func_form : Context → ℕ → InstrForm
 ref_func_form c x =
     where_some (slice_get c.funcs x) (λ t. where_true (is_marked c.refs x) (Flat [] (types.Func ∷ [])))
 
 -- "Reference Instructions", "Numeric Instructions" and "Vector Instructions"
-abbrev pub op_form : Context → Op → Shape
+abbrev pub op_form : Context → Op → InstrForm
 op_form c (ops.RefNull t) = where_true (is_reference_type t) (Flat [] (t ∷ []))
 op_form c ops.RefIsNull = Any Reference (types.I32 ∷ [])
 op_form c (ops.RefFunc x) = ref_func_form c x
@@ -152,7 +162,7 @@ op_form c (ops.ShiftLanes op) = Flat (types.V128 ∷ (types.I32 ∷ [])) (types.
 op_form c (ops.TestLanes op) = Flat (types.V128 ∷ []) (types.I32 ∷ [])
 
 -- the form of an instruction among these labels, the innermost first
-abbrev pub layer_form : Context → List (List Ty) → Instr-F Instr → Shape
+abbrev pub layer_form : Context → List (List Ty) → Instr-F Instr → InstrForm
 -- "Parametric Instructions"
 layer_form c ls Instr-F.Nop = Flat [] []
 layer_form c ls Instr-F.Unreachable = Leaves []
@@ -169,11 +179,11 @@ layer_form c ls (Instr-F.BrTable xs last) =
     where_some (slice_get ls last) (λ l. where_some (labels_at ls xs) (λ others. Table l others))
 layer_form c ls (Instr-F.Call x) = where_some (func_type c x) (λ t. Flat t.params t.results)
 layer_form c ls (Instr-F.CallIndirect x table) =
-    where_true (is_function_table c table) (where_some (slice_get c.types x) (λ t. Flat (t.params ++ types.I32 ∷ []) t.results))
+    where_some (indirect_type c x table) (λ t. Flat (t.params ++ types.I32 ∷ []) t.results)
 layer_form c ls Instr-F.Return = where_some c.returns (λ ts. Leaves ts)
 layer_form c ls (Instr-F.ReturnCall x) = where_some (func_type c x) (λ t. tail_form c.returns t t.params)
 layer_form c ls (Instr-F.ReturnCallIndirect x table) =
-    where_true (is_function_table c table) (where_some (slice_get c.types x) (λ t. tail_form c.returns t (t.params ++ types.I32 ∷ [])))
+    where_some (indirect_type c x table) (λ t. tail_form c.returns t (t.params ++ types.I32 ∷ []))
 layer_form c ls (Instr-F.Throw x) = where_some (tag_type c x) (λ t. Leaves t.params)
 layer_form c ls Instr-F.ThrowRef = Leaves (types.Exn ∷ [])
 layer_form c ls (Instr-F.TryTable type clauses code) =
@@ -199,31 +209,31 @@ layer_form c ls (Instr-F.TableInit segment x) =
 layer_form c ls (Instr-F.ElemDrop segment) = where_some (slice_get c.elems segment) (λ s. Flat [] [])
 -- "Memory Instructions"
 layer_form c ls (Instr-F.Load op arg) =
-    access_form c arg (load_bytes op) (λ address. Flat (address ∷ []) (int_type (load_width op) ∷ []))
+    where_some (accessed c arg (load_bytes op)) (λ address. Flat (address ∷ []) (int_type (load_width op) ∷ []))
 layer_form c ls (Instr-F.Store op arg) =
-    access_form c arg (store_bytes op) (λ address. Flat (address ∷ (int_type (store_width op) ∷ [])) [])
+    where_some (accessed c arg (store_bytes op)) (λ address. Flat (address ∷ (int_type (store_width op) ∷ [])) [])
 layer_form c ls (Instr-F.LoadVector op arg) =
-    access_form c arg (lane_load_bytes op) (λ address. Flat (address ∷ []) (types.V128 ∷ []))
-layer_form c ls (Instr-F.StoreVector arg) = access_form c arg 16 (λ address. Flat (address ∷ (types.V128 ∷ [])) [])
+    where_some (accessed c arg (lane_load_bytes op)) (λ address. Flat (address ∷ []) (types.V128 ∷ []))
+layer_form c ls (Instr-F.StoreVector arg) = where_some (accessed c arg 16) (λ address. Flat (address ∷ (types.V128 ∷ [])) [])
 layer_form c ls (Instr-F.LoadLane shape arg lane) =
-    where_true (nat_lt lane (lane_count shape)) (access_form c arg (lane_bytes shape) (λ address. Flat (address ∷ (types.V128 ∷ [])) (types.V128 ∷ [])))
+    where_some (lane_accessed c shape arg lane) (λ address. Flat (address ∷ (types.V128 ∷ [])) (types.V128 ∷ []))
 layer_form c ls (Instr-F.StoreLane shape arg lane) =
-    where_true (nat_lt lane (lane_count shape)) (access_form c arg (lane_bytes shape) (λ address. Flat (address ∷ (types.V128 ∷ [])) []))
-layer_form c ls (Instr-F.MemorySize x) = memory_form c x (λ address. Flat [] (address ∷ []))
-layer_form c ls (Instr-F.MemoryGrow x) = memory_form c x (λ address. Flat (address ∷ []) (address ∷ []))
+    where_some (lane_accessed c shape arg lane) (λ address. Flat (address ∷ (types.V128 ∷ [])) [])
+layer_form c ls (Instr-F.MemorySize x) = where_some (addressed c x) (λ address. Flat [] (address ∷ []))
+layer_form c ls (Instr-F.MemoryGrow x) = where_some (addressed c x) (λ address. Flat (address ∷ []) (address ∷ []))
 layer_form c ls (Instr-F.MemoryFill x) =
-    memory_form c x (λ address. Flat (address ∷ (types.I32 ∷ (address ∷ []))) [])
+    where_some (slice_get c.memories x) (λ l. Flat (address_type l ∷ (types.I32 ∷ (address_type l ∷ []))) [])
 layer_form c ls (Instr-F.MemoryCopy to from) =
     where_some (slice_get c.memories to) (λ t. where_some (slice_get c.memories from) (λ s. memory_copy_form t s))
 layer_form c ls (Instr-F.MemoryInit segment x) =
-    memory_form c x (λ address. where_true (nat_lt segment c.datas) (Flat (address ∷ (types.I32 ∷ (types.I32 ∷ []))) []))
+    where_some (slice_get c.memories x) (λ l. where_true (nat_lt segment c.datas) (Flat (address_type l ∷ (types.I32 ∷ (types.I32 ∷ []))) []))
 layer_form c ls (Instr-F.DataDrop segment) = where_true (nat_lt segment c.datas) (Flat [] [])
 -- "Reference Instructions", "Numeric Instructions" and "Vector Instructions"
 layer_form c ls (Instr-F.Pure op) = op_form c op
 -- there is no rule for an instruction on floats
 layer_form c ls (Instr-F.Float code immediates) = Untyped
 
-abbrev pub form : Context → List (List Ty) → Instr → Shape
+abbrev pub form : Context → List (List Ty) → Instr → InstrForm
 form c ls i = layer_form c ls (out-Instr i)
 
 -- which types an operand of a kind may have

@@ -4,7 +4,8 @@ ghost use Rattle.std.specs.Prelude.{◌≡◌, [], ◌∷◌};
 ghost use Rattle.num_core.specs.declared.operators.Width.{Width};
 ghost use Rattle.wasm_ast.specs.declared.module.ty.Ty.{Ty};
 ghost use Rattle.wasm_ast.specs.declared.module.ty.Ty.TheVariants.{I32};
-ghost use Rattle.typed_trees.specs.Contexts.{address_of};
+ghost use Rattle.typed_trees.specs.Contexts.{address_of, is_value_type, is_reference_type, is_plain_type};
+ghost use Rattle.typed_trees.specs.Matching.{matches, all_match};
 ghost use Rattle.typed_trees.specs.Operands.{int_type, lane_type};
 
 use lane_core::vector::Shape;
@@ -96,4 +97,56 @@ pub fn lane_type(shape: Shape) -> Ty
         Shape::I8x16 | Shape::I16x8 | Shape::I32x4 => Ty::I32,
         Shape::I64x2 => Ty::I64,
     }
+}
+
+/// Whether it is the type of values: no float is.
+pub fn is_value_type(ty: Ty) -> bool
+    ensures { result ≡ is_value_type ty }
+{
+    !matches!(ty, Ty::F32 | Ty::F64)
+}
+
+/// Whether it is a reference type.
+pub fn is_reference_type(ty: Ty) -> bool
+    ensures { result ≡ is_reference_type ty }
+{
+    matches!(ty, Ty::Func | Ty::Extern | Ty::Exn)
+}
+
+/// Whether it is the type of numbers or of vectors.
+pub fn is_plain_type(ty: Ty) -> bool
+    ensures { result ≡ is_plain_type ty }
+{
+    matches!(ty, Ty::I32 | Ty::I64 | Ty::V128)
+}
+
+/// Whether a value of the first type may stand where one of the second is asked for.
+pub fn matches(given: Ty, wanted: Ty) -> bool
+    ensures { result ≡ matches given wanted }
+{
+    match given {
+        Ty::I32 => matches!(wanted, Ty::I32),
+        Ty::I64 => matches!(wanted, Ty::I64),
+        Ty::F32 => matches!(wanted, Ty::F32),
+        Ty::F64 => matches!(wanted, Ty::F64),
+        Ty::V128 => matches!(wanted, Ty::V128),
+        Ty::Func => matches!(wanted, Ty::Func),
+        Ty::Extern => matches!(wanted, Ty::Extern),
+        Ty::Exn => matches!(wanted, Ty::Exn),
+    }
+}
+
+/// The same of lists of types, one by one.
+pub fn all_match(given: &[Ty], wanted: &[Ty]) -> bool
+    ensures { result ≡ all_match given.now wanted.now }
+{
+    if given.len() != wanted.len() {
+        return false;
+    }
+    for k in 0..given.len() {
+        if !matches(given[k], wanted[k]) {
+            return false;
+        }
+    }
+    true
 }
