@@ -37,7 +37,7 @@ refill_leaf c (Block label a b code) takes gives first second h = absurd h
 refill_leaf c (Choice label a b code other) takes gives first second h = absurd h
 refill_leaf c _ takes gives first second h = refl
 
-form_leaf : (c : Context) (ls : List (List Ty)) (n : Node) → FitsLeaf (language c) (form c ls (head_of n)) (takes_of n) (gives_of n) → form c ls (erase n) ≡ form c ls (head_of n)
+pub form_leaf : (c : Context) (ls : List (List Ty)) (n : Node) → FitsLeaf (language c) (form c ls (head_of n)) (takes_of n) (gives_of n) → form c ls (erase n) ≡ form c ls (head_of n)
 form_leaf c ls n h = form_erased c ls n ∙ refill_leaf c (form c ls (head_of n)) (takes_of n) (gives_of n) (erased (first_of n)) (erased (second_of n)) h
 
 fits_erased : (c : Context) (ls : List (List Ty)) (n : Node) → FitsLeaf (language c) (form c ls (head_of n)) (takes_of n) (gives_of n) → FitsLeaf (language c) (form c ls (erase n)) (takes_of n) (gives_of n)
@@ -52,7 +52,7 @@ form_choice c ls n label takes gives e =
     form_erased c ls n ∙ ap (λ f. refill f (erased (first_of n)) (erased (second_of n))) e
 
 -- types match themselves
-matches_self : (t : Ty) → matches t t ≡ true
+pub matches_self : (t : Ty) → matches t t ≡ true
 matches_self types.I32 = refl
 matches_self types.I64 = refl
 matches_self types.F32 = refl
@@ -62,7 +62,7 @@ matches_self types.Func = refl
 matches_self types.Extern = refl
 matches_self types.Exn = refl
 
-known_match : (ts : List Ty) → AllMatch matches (known ts) (known ts)
+pub known_match : (ts : List Ty) → AllMatch matches (known ts) (known ts)
 known_match [] = tt
 known_match (t ∷ ts) = (matches_self t, known_match ts)
 

@@ -1,11 +1,13 @@
 // What code may name: the index spaces of its module, and the types of its function.
 
-ghost use Rattle.std.specs.Prelude.{◌≡◌, ◌++◌, option_map, slice_get, reverse};
+ghost use Rattle.std.specs.Prelude.{◌≡◌, map, option_map, slice_get, IfOk};
 ghost use Rattle.wasm_ast.specs.Marking.{is_marked};
 ghost use Rattle.typed_trees.specs.Contexts.{func_type, tag_type};
+ghost use Rattle.typed_trees.specs.Forms.{labels_at};
 ghost use Rattle.valid_new.specs.Scopes.{context_of, labels_of};
 
 use sqlite_items::Items;
+use std::alloc::{AllocError, Global};
 use typed_trees::GlobalType;
 use wasm_ast::marking::is_marked;
 use wasm_ast::module::{FuncType, Limits, Ty};
@@ -139,4 +141,22 @@ pub fn is_declared(scope: Scope<'_>, func: u32) -> bool
     ensures { result ≡ is_marked (context_of scope.entry).refs func }
 {
     is_marked(scope.spaces.refs.as_slice(), func as usize)
+}
+
+/// What branches to the labels take, where each label is there.
+pub fn labels_at<'a>(
+    alloc: Global,
+    labels: &[&'a [Ty]],
+    numbers: &[u32],
+) -> Result<Option<Vec<&'a [Ty]>>, AllocError>
+    ensures { IfOk result (λ found. option_map (λ v. map (λ ts. ts.now) v.items) found ≡ labels_at (labels_of labels.now) numbers.now) }
+{
+    let mut found = Vec::new(alloc);
+    for k in 0..numbers.len() {
+        let Some(types) = label_types(labels, numbers[k]) else {
+            return Ok(None);
+        };
+        found.push(types)?;
+    }
+    Ok(Some(found))
 }
