@@ -4,6 +4,7 @@ use Rattle.std.specs.Borrow.{Bor}
 use Rattle.wasm_ast.specs.declared.module.ty.Ty.{Ty}
 use Rattle.wasm_ast.specs.declared.module.ty.Ty.TheVariants.{I32}
 use Rattle.wasm_ast.specs.declared.module.code.Instr.{Instr, out-Instr}
+use Rattle.typing_kit.specs.declared.operand.Operand.{Operand}
 use Rattle.typing_kit.specs.declared.plan.Met.{Met}
 use Rattle.typing_kit.specs.declared.plan.Met.TheVariants.{Untyped, Planned}
 use Rattle.typing_kit.specs.Form as forms
@@ -11,7 +12,7 @@ use Rattle.typing_kit.specs.Matching.{known}
 use Rattle.typing_kit.specs.Progress.{Leads, Stuck}
 use Rattle.typing_kit.specs.Stack.{Stack, fit}
 use Rattle.typing_kit.specs.Steps.{took, flat_step, with_top}
-use Rattle.typing_kit.proofs.Forms.{Exactly, block_exactly, choice_exactly, exactly_leads, exactly_stuck}
+use Rattle.typing_kit.proofs.Forms.{Exactly, block_exactly, choice_exactly, exactly_leads, exactly_stuck, choice_stuck}
 use Rattle.typed_trees.specs.declared.node.Node.{Node}
 use Rattle.typed_trees.specs.Contexts.{Context}
 use Rattle.typed_trees.specs.Forms.{form, language, is_of_kind}
@@ -20,7 +21,7 @@ use Rattle.typed_trees.specs.Trees.{with_bodies, erase, erased, leaves, reachabl
 use Rattle.typed_trees.proofs.LeafTyped.{IsLeaving}
 use Rattle.typed_trees.proofs.Refilled.{refill}
 use Rattle.valid_new.specs.declared.nested.Nested.{Nested}
-use Rattle.valid_new.specs.Bodies.{After, AreArms, Body, IsMet, OneArm, Reached, TwoArms, Went}
+use Rattle.valid_new.specs.Bodies.{After, AreArms, Body, BodyOr, IsMet, OneArm, Reached, TwoArms, Went}
 use Rattle.valid_new.specs.Nested.{nested_form}
 use Rattle.valid_new.specs.Nodes.{NodeIs}
 use Rattle.valid_new.proofs.Holding.{tree_is, head_form, head_leaves, first_held, both_held}
@@ -57,14 +58,17 @@ module _ (c : Context) (ls : List (List Ty)) (i : Instr) (takes gives : List Ty)
       outer = moves.outer;
       unreached = λ d. (let no : ⊥ = cc in absurd no);
       reached = λ ts d v.
-          (let kept = moves.reached ts d v in
-          (n, e2, record {
-            tree = x.tree n h o is;
-            typed = x.typed n h o is;
-            below = kept.below;
-            is = kept.is ∙ ap (λ l. kept.below ++ l) (sym is.takes);
-            after = subst (λ y. After y (kept.below ++ gives_of n) t) (sym (x.stays n h o is)) (subst (λ l. After false (kept.below ++ l) t) (sym is.gives) kept.after);
-          }));
+          (let kept = moves.reached ts d v in (
+            n,
+            e2,
+            record {
+              tree = x.tree n h o is;
+              typed = x.typed n h o is;
+              below = kept.below;
+              is = kept.is ∙ ap (λ l. kept.below ++ l) (sym is.takes);
+              after = subst (λ y. After y (kept.below ++ gives_of n) t) (sym (x.stays n h o is)) (subst (λ l. After false (kept.below ++ l) t) (sym is.gives) kept.after);
+            },
+          ));
     }
 
     pub exact_unreached : (nodes put : List Node) → put ≡ nodes → s.dead ≡ true → Went c ls i s t nodes put
@@ -126,3 +130,9 @@ module _ (c : Context) (ls : List (List Ty)) (i : Instr) where
       go (Some code) e arms =
           subst (λ o. Exact c ls i (with_top n.takes.now o) n.gives.now a b) (sym arms.condition)
           (two_arms n.label.now n.takes.now n.gives.now n.first.now code.now a b e arms.first_body arms.second_body)
+
+-- where the second arm is not typed no code that begins with the instruction is
+pub second_stuck : (c : Context) (ls ls' : List (List Ty)) (i : Instr) (n : Nested) (code : Bor (List Instr)) (found : Option (List Node)) (dead : Bool) (s : List (Operand Ty)) → form c ls i ≡ nested_form n n.second → n.second ≡ Some code → found ≡ None → ls' ≡ ls → BodyOr c (n.label.now ∷ ls') code.now n.takes.now n.gives.now found → Stuck (language c) ls i dead s
+second_stuck c ls ls' i n code found dead s e is untyped same body =
+    choice_stuck (language c) ls i dead s n.label.now n.takes.now n.gives.now n.first.now code.now (lawful c) (e ∙ ap (nested_form n) is)
+    (λ first second. subst (λ l. BodyOr c (n.label.now ∷ l) code.now n.takes.now n.gives.now None) same (subst (BodyOr c (n.label.now ∷ ls') code.now n.takes.now n.gives.now) untyped body) second)

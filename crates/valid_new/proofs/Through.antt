@@ -1,6 +1,8 @@
 -- Typing code, one instruction after another.
 use Rattle.std.proofs.Common.{◌≡◌, ◌↔◌, ℕ, ◌+◌, ◌<◌, ◌≤◌, Bool, true, false, nat_le, ◌&&◌, List, [], ◌∷◌, ◌++◌, map, reverse, drop, length, get_or, Option, Some, None, refl, ap, sym, subst, ◌∙◌, append_assoc, append-nil, arith}
-use Rattle.std.proofs.lemmas.List.{map-append, length-reverse, length-map, length-append}
+use Rattle.std.proofs.lemmas.List.{map-append, length-reverse, length-map, length-append, reverse-append, drop_all}
+use Rattle.std.specs.Borrow.{Bor}
+use Rattle.valid_new.specs.Scopes.{labels_of}
 use Rattle.wasm_ast.specs.declared.module.ty.Ty.{Ty}
 use Rattle.wasm_ast.specs.declared.module.code.Instr.{Instr, out-Instr, roll-Instr, out-roll-Instr}
 use Rattle.wasm_ast.specs.declared.module.code.Instr.TheOpen.{Instr-F}
@@ -177,3 +179,28 @@ module _ (c : Context) (ls : List (List Ty)) (takes : List Ty) where
               nodes_typed = subst (λ l. TypedNodes c ls l takes (Some a.values)) (append-nil nodes) (a.onwards [] (Some a.values) (none c ls a.values));
               ends = all_values a.values d a.top f;
             }
+
+-- one label more
+pub labels_pushed : (labels : List (Bor (List Ty))) (label : Bor (List Ty)) → labels_of (labels ++ label ∷ []) ≡ label.now ∷ labels_of labels
+labels_pushed labels label = ap (λ l. map (λ x. x.now) l) (reverse-append labels (label ∷ []))
+
+-- the instruction at a place of the code
+pub at_place : (code : List Instr) (k : ℕ) (i : Instr) → k < length code → i ≡ get_or code k i → drop k code ≡ i ∷ drop (k + 1) code
+at_place code k i h e = drop_at code k i h ∙ ap (λ x. x ∷ drop (k + 1) code) (sym e)
+
+module _ (c : Context) (ls : List (List Ty)) (takes : List Ty) (code : List Instr) (k : ℕ) (i : Instr) (h : k < length code) (e : i ≡ get_or code k i) (old new : Stack Ty) (nodes put : List Node) (so_far : Through c ls takes code (drop k code) old nodes) where
+  here : Through c ls takes code (i ∷ drop (k + 1) code) old nodes
+  here = subst (λ l. Through c ls takes code l old nodes) (at_place code k i h e) so_far
+
+  pub stuck_here : (gives : List Ty) (b : Bool) → b ≡ false → WentOr c ls i old new nodes put b → TypedCode (language c) ls code (known takes) (known gives) → ⊥
+  stuck_here gives b n w = through_stuck c ls takes code (drop (k + 1) code) i old new nodes put here gives (subst (WentOr c ls i old new nodes put) n w)
+
+  pub went_here : (b : Bool) → b ≡ true → WentOr c ls i old new nodes put b → Through c ls takes code (drop (k + 1) code) new put
+  went_here b y w = through_more c ls takes code (drop (k + 1) code) i old new nodes put here (subst (WentOr c ls i old new nodes put) y w)
+
+  pub outer_here : (b : Bool) → b ≡ true → WentOr c ls i old new nodes put b → new.outer ≡ old.outer
+  outer_here b y w = (subst (WentOr c ls i old new nodes put) y w).outer
+
+-- at the end of the code
+pub ended_here : (c : Context) (ls : List (List Ty)) (takes : List Ty) (code : List Instr) (k : ℕ) (stack : Stack Ty) (nodes : List Node) → length code ≤ k → Through c ls takes code (drop k code) stack nodes → Through c ls takes code [] stack nodes
+ended_here c ls takes code k stack nodes h t = subst (λ l. Through c ls takes code l stack nodes) (drop_all k code h) t

@@ -68,7 +68,15 @@ fn type_leaf<'a>(
 {
     match instr {
         Instr::BrTable(others, last) => {
-            type_table(alloc, labels, operands, instr, others.as_slice(), *last, nodes)
+            type_table(
+                alloc,
+                labels,
+                operands,
+                instr,
+                others.as_slice(),
+                *last,
+                nodes,
+            )
         }
         _ => {
             let plan = plan_of(scope, labels, instr);
@@ -189,7 +197,16 @@ fn type_nested<'a>(
         return Ok(false);
     };
     let Some(second) = nested.second else {
-        return put_nested(alloc, operands, instr, nested, None, first, Items::new(alloc), nodes);
+        return put_nested(
+            alloc,
+            operands,
+            instr,
+            nested,
+            None,
+            first,
+            Items::new(alloc),
+            nodes,
+        );
     };
     let second = type_body(
         alloc,
@@ -204,7 +221,16 @@ fn type_nested<'a>(
     let Some(second) = second else {
         return Ok(false);
     };
-    put_nested(alloc, operands, instr, nested, Some(Ty::I32), first, second, nodes)
+    put_nested(
+        alloc,
+        operands,
+        instr,
+        nested,
+        Some(Ty::I32),
+        first,
+        second,
+        nodes,
+    )
 }
 
 /// Types an instruction that holds typed code. Where it is reached its node is put behind the nodes.

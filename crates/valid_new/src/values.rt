@@ -13,7 +13,9 @@ impl ValueTypes for Values {
     type Type = Ty;
 
     ghost sub = { matches };
+
     ghost of_kind = { is_of_kind };
+
     ghost condition = { I32 };
 
     fn matches(given: Ty, wanted: Ty) -> bool {
