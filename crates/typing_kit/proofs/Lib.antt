@@ -1,0 +1,11 @@
+pub mod Lists
+pub mod Stacks
+pub mod Fitting
+pub mod Laws
+pub mod Covering
+pub mod Leading
+pub mod Forms
+pub mod Open
+pub mod Leaving
+pub mod Stepping
+pub mod Values
