@@ -4,3 +4,4 @@ pub mod Lengths
 pub mod Code
 pub mod Typing
 pub mod Example
+pub mod Floats

@@ -1,10 +1,10 @@
-pub mod HeldLemmas
+pub mod Arrows
+pub mod CoreFiles
 pub mod Image
 pub mod KnownLemmas
-pub mod MemoryLemmas
-pub mod PairLemmas
-pub mod SameEvents
+pub mod Linked
 pub mod Refusals
+pub mod SameEvents
 pub mod Shown
 pub mod Simulation
 pub mod Soundness

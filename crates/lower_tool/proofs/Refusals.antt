@@ -3,24 +3,20 @@ use Rattle.std.proofs.Common.{◌≡◌, ℕ, ◌<◌, ◌≤◌, List, [], leng
 use Rattle.std.proofs.lemmas.Bool.{cases_lt}
 use Rattle.std.specs.Prelude.{Option, Some, None, Result, Ok, Err, ◌⊎◌, IsSomeAnd}
 use Rattle.wasm_ast.specs.declared.module.parts.Module.{Module}
-use Rattle.wasm_frame.specs.declared.sections.FrameFault.TheVariants as frame
 use Rattle.read_new.specs.declared.fault.ReadFault.{ReadFault}
-use Rattle.read_new.specs.declared.fault.ReadFault.TheVariants as fault
 use Rattle.read_new.specs.Reads.{Reads}
-use Rattle.read_new.specs.CoreFiles.{SpellsCore}
-use Rattle.read_new.proofs.CoreFiles.{core_is_read}
+use Rattle.lower_tool.specs.CoreFiles.{SpellsCore}
+use Rattle.lower_tool.proofs.CoreFiles.{core_is_read}
 use Rattle.read_new.proofs.OneAnswer.{one_answer}
-use Rattle.lower_tool.specs.declared.lowering.LowerFault.{LowerFault}
-use Rattle.lower_tool.specs.declared.lowering.LowerFault.TheVariants as lower
 use Rattle.lower_tool.specs.declared.verdict.Refusal.{Refusal}
-use Rattle.lower_tool.specs.declared.verdict.Refusal.TheVariants.{TooLarge, BadHead, BadSize, BadOrder, Section, Body, Counts, Limit, NotBuiltCore}
-use Rattle.lower_tool.specs.Held.{Contents, Told, WhereTold}
+use Rattle.lower_tool.specs.declared.verdict.Refusal.TheVariants.{TooLarge, Unreadable, NotBuiltCore}
+use Rattle.tool_files.specs.Held.{Contents, Told, WhereTold}
 use Rattle.lower_tool.specs.Lowering.{IsCoreFile}
 use Rattle.lower_tool.specs.declared.tool.stop.Stop.{Stop}
 use Rattle.lower_tool.specs.declared.tool.stop.Stop.TheVariants.{Refused, CannotRead, OutOfMemory}
-use Rattle.lower_tool.specs.Stops.{IfRefused, fault_of, status_of}
-use Rattle.lower_tool.proofs.HeldLemmas.{where_told}
-use Rattle.lower_tool.specs.Verdict.{file_limit, IsFine, CannotBeRead, Refuses, text_of, IsRefusal}
+use Rattle.lower_tool.specs.Stops.{IfRefused, status_of}
+use Rattle.tool_files.proofs.HeldLemmas.{where_told}
+use Rattle.lower_tool.specs.Verdict.{file_limit, IsFine, Refuses, text_of, IsRefusal}
 
 -- the bytes of a core module can be read
 core_reads : (b : List ℕ) → IsCoreFile b → (m : Module) × Reads b (Ok m)
@@ -34,55 +30,30 @@ not_core b m reads other core =
     let same : core.0 ≡ m = cc (one_answer b (Ok core.0) (Ok m) (core_is_read b core.0 core.1) reads) in
     other (subst (λ n. SpellsCore b n) same core.1)
 
-unread : (b : List ℕ) (e : ReadFault) → CannotBeRead b e → IsFine b → ⊥
-unread b e refused fine =
-    let read = core_reads b fine.1 in
-    absurd (cc (one_answer b (Err e) (Ok read.0) refused.1 read.1))
-
 -- what is refused is not fine
 pub not_fine : (refusal : Refusal) (b : List ℕ) → Refuses refusal b → IsFine b → ⊥
 not_fine TooLarge b refused fine = omega (arith, refused, fine.0)
-not_fine BadHead b refused fine = unread b (fault.Frame frame.BadHead) refused fine
-not_fine BadSize b refused fine = unread b (fault.Frame frame.BadSize) refused fine
-not_fine BadOrder b refused fine = unread b (fault.Frame frame.BadOrder) refused fine
-not_fine (Section i) b refused fine = unread b (fault.Section i) refused fine
-not_fine (Body f) b refused fine = unread b (fault.Body f) refused fine
-not_fine Counts b refused fine = unread b fault.Counts refused fine
-not_fine (Limit kind) b refused fine = unread b (fault.Limit kind) refused fine
+not_fine (Unreadable fault) b refused fine =
+    let read = core_reads b fine.1 in
+    absurd (cc (one_answer b (Err fault) (Ok read.0) refused.1 read.1))
 not_fine NotBuiltCore b refused fine = refused.2 fine.1
 
 -- the text by what reading answers
-abbrev text_where : LowerFault → List ℕ
-text_where (lower.Refused refusal) = text_of refusal
-text_where (lower.Memory e) = []
-
 abbrev text_by : Result Module ReadFault → List ℕ
 text_by (Ok m) = text_of NotBuiltCore
-text_by (Err e) = text_where (fault_of e)
+text_by (Err fault) = text_of (Unreadable fault)
 
 abbrev Answered : Refusal → List ℕ → Type 0
 Answered refusal b = (answer : Result Module ReadFault) × Reads b answer × (text_by answer ≡ text_of refusal)
 
 answered : (refusal : Refusal) (b : List ℕ) → length b ≤ file_limit → Refuses refusal b → Answered refusal b
 answered TooLarge b within refused = absurd (omega (arith, refused, within))
-answered BadHead b within refused = (Err (fault.Frame frame.BadHead), refused.1, refl)
-answered BadSize b within refused = (Err (fault.Frame frame.BadSize), refused.1, refl)
-answered BadOrder b within refused = (Err (fault.Frame frame.BadOrder), refused.1, refl)
-answered (Section i) b within refused = (Err (fault.Section i), refused.1, refl)
-answered (Body f) b within refused = (Err (fault.Body f), refused.1, refl)
-answered Counts b within refused = (Err fault.Counts, refused.1, refl)
-answered (Limit kind) b within refused = (Err (fault.Limit kind), refused.1, refl)
+answered (Unreadable fault) b within refused = (Err fault, refused.1, refl)
 answered NotBuiltCore b within refused = (Ok refused.1.0, refused.1.1, refl)
 
 large_text : (refusal : Refusal) (b : List ℕ) → file_limit < length b → Refuses refusal b → text_of refusal ≡ text_of TooLarge
 large_text TooLarge b large refused = refl
-large_text BadHead b large refused = absurd (omega (arith, large, refused.0))
-large_text BadSize b large refused = absurd (omega (arith, large, refused.0))
-large_text BadOrder b large refused = absurd (omega (arith, large, refused.0))
-large_text (Section i) b large refused = absurd (omega (arith, large, refused.0))
-large_text (Body f) b large refused = absurd (omega (arith, large, refused.0))
-large_text Counts b large refused = absurd (omega (arith, large, refused.0))
-large_text (Limit kind) b large refused = absurd (omega (arith, large, refused.0))
+large_text (Unreadable fault) b large refused = absurd (omega (arith, large, refused.0))
 large_text NotBuiltCore b large refused = absurd (omega (arith, large, refused.0))
 
 same_text : (b : List ℕ) (r s : Refusal) → Refuses r b → Refuses s b → (file_limit < length b) ⊎ (length b ≤ file_limit) → text_of r ≡ text_of s
@@ -114,13 +85,15 @@ pub told_text : (known : Option Contents) (name : List ℕ) (refusal : Refusal) 
 told_text known name refusal h = where_told known name (Refuses refusal) (λ b. IsRefusal b (text_of refusal)) (λ b refused. (refusal, refused, refl)) h
 
 -- a command that stops with status 1 stops for a refusal
-pub refused_stop : (stop : Stop) (P : Refusal → Type 0) → IfRefused stop P → status_of stop ≡ 1 → (refusal : Refusal) × (stop ≡ Refused refusal) × P refusal
-refused_stop (Refused refusal) P h status = (refusal, refl, h)
-refused_stop CannotRead P h status = absurd (omega (arith, status))
-refused_stop OutOfMemory P h status = absurd (omega (arith, status))
+pub refused_stop : (stop : Stop) (P : Refusal → Type 0) (status : ℕ) → IfRefused stop P → (status ≡ status_of stop) ⊎ (status ≡ 5) → status ≡ 1 → (refusal : Refusal) × (stop ≡ Refused refusal) × P refusal
+refused_stop stop P status h (inr memory) one = absurd (omega (arith, memory, one))
+refused_stop (Refused refusal) P status h (inl same) one = (refusal, refl, h)
+refused_stop CannotRead P status h (inl same) one = absurd (omega (arith, same, one))
+refused_stop OutOfMemory P status h (inl same) one = absurd (omega (arith, same, one))
 
 -- a command on a fine file stops for a fault of reading or for want of memory
-pub fine_stops : (known : Option Contents) (name : List ℕ) (stop : Stop) → IfRefused stop (λ refusal. WhereTold known name (Refuses refusal)) → (stop ≡ CannotRead → ⊥) → Told known name IsFine → (status_of stop ≡ 0) ⊎ (status_of stop ≡ 5)
-fine_stops known name (Refused refusal) h calm fine = absurd (told_not_fine known name refusal h fine)
-fine_stops known name CannotRead h calm fine = absurd (calm refl)
-fine_stops known name OutOfMemory h calm fine = inr refl
+pub fine_stops : (known : Option Contents) (name : List ℕ) (stop : Stop) (status : ℕ) → IfRefused stop (λ refusal. WhereTold known name (Refuses refusal)) → (stop ≡ CannotRead → ⊥) → (status ≡ status_of stop) ⊎ (status ≡ 5) → Told known name IsFine → (status ≡ 0) ⊎ (status ≡ 5)
+fine_stops known name stop status h calm (inr memory) fine = inr memory
+fine_stops known name (Refused refusal) status h calm (inl same) fine = absurd (told_not_fine known name refusal h fine)
+fine_stops known name CannotRead status h calm (inl same) fine = absurd (calm refl)
+fine_stops known name OutOfMemory status h calm (inl same) fine = inr same

@@ -27,7 +27,7 @@ use Rattle.meaning_new.specs.Instructions.{exec_code}
 use Rattle.meaning_new.specs.Modules.{exported, invoke, answered, item, items, instantiate, trace, with_args}
 use Rattle.meaning_new.specs.Values.{default}
 use Rattle.meaning_core1.specs.Fitting.{HaveTypes1}
-use Rattle.read_new.specs.Typing.{TypedCode}
+use Rattle.lower_tool.specs.CoreTyping.{TypedCode}
 use Rattle.lower_tool.specs.Constants.{ConstantFits}
 use Rattle.lower_tool.specs.Mapping.{flattened}
 use Rattle.lower_tool.specs.Unmapping.{exported_type, item_type, called_type, results_of, grouped, unmap_event, FitsEvent}

@@ -5,6 +5,7 @@ use Rattle.std.specs.List.{AllByRecursion}
 use Rattle.std.proofs.lemmas.List.{append-nil, reverse-append}
 use Rattle.num_core.specs.Integers.{binary, convert, width_from, width_to}
 use Rattle.num_core.specs.declared.operators.Bin.{Bin}
+use Rattle.num_core.specs.declared.operators.Bin.TheVariants.{Add}
 use Rattle.num_core.specs.declared.operators.Conv.{Conv}
 use Rattle.num_core.specs.declared.operators.Conv.TheVariants.{S8of32, S16of32}
 use Rattle.num_core.specs.declared.operators.Width.TheVariants.{W32}
@@ -23,7 +24,7 @@ use Rattle.meaning_new.specs.Fitting.{HasType, HaveTypes}
 use Rattle.meaning_new.specs.Instructions.{exec_code, plain, with_operands}
 use Rattle.meaning_new.specs.Values.{default, local_at}
 use Rattle.lower_tool.specs.Constants.{ConstantFits}
-use Rattle.read_new.specs.Typing.{Context, Typed, TypedCode, i32_const, binary as binary_rule, convert as convert_rule, local_get, none, more}
+use Rattle.lower_tool.specs.CoreTyping.{Context, Typed, TypedCode, i32_const, add, extend, local_get, none, more}
 
 -- What an instruction or code comes to: operands of these types (the top first on the stack, last among the types),
 -- locals of the context, the state as it was; or a trap in that state.
@@ -93,9 +94,9 @@ sound_local ctx below x t c e h l = (types_push below t (local_at c.locals x) c.
 sound_instruction : (ctx : Context) (i : Instr) (below takes gives : List Ty) (c : Conf) → Typed ctx i takes gives → ConstantFits i → HaveTypes c.operands (reverse (below ++ takes)) → HaveTypes c.locals ctx.locals → SoundRes ctx (below ++ gives) c.state (plain i c)
 sound_instruction ctx i below takes gives c (i32_const _ _ n e) fits h l =
     subst (λ j. SoundRes ctx (below ++ types.I32 ∷ []) c.state (plain j c)) (sym e) (sound_const ctx below n c (fits n e) h l)
-sound_instruction ctx i below takes gives c (binary_rule _ _ op e) fits h l =
-    subst (λ j. SoundRes ctx (below ++ types.I32 ∷ []) c.state (plain j c)) (sym e) (sound_binary ctx below op c h l)
-sound_instruction ctx i below takes gives c (convert_rule _ _ op e from to) fits h l =
+sound_instruction ctx i below takes gives c (add _ _ e) fits h l =
+    subst (λ j. SoundRes ctx (below ++ types.I32 ∷ []) c.state (plain j c)) (sym e) (sound_binary ctx below Add c h l)
+sound_instruction ctx i below takes gives c (extend _ _ op e from to) fits h l =
     subst (λ j. SoundRes ctx (below ++ types.I32 ∷ []) c.state (plain j c)) (sym e) (sound_convert ctx below op c from to h l)
 sound_instruction ctx i below takes gives c (local_get _ _ x t e got) fits h l =
     subst (λ j. SoundRes ctx (below ++ t ∷ []) c.state (plain j c)) (sym e) (sound_local ctx below x t c got h l)

@@ -5,7 +5,7 @@ use Rattle.std.specs.List.{AllByRecursion, flat_map}
 use Rattle.std.proofs.lemmas.Grind.{flat_map-append}
 use Rattle.std.proofs.lemmas.List.{append-nil}
 use Rattle.num_core.specs.declared.operators.Bin.{Bin}
-use Rattle.num_core.specs.declared.operators.Bin.TheVariants.{Shl, ShrS}
+use Rattle.num_core.specs.declared.operators.Bin.TheVariants.{Add, Shl, ShrS}
 use Rattle.num_core.specs.declared.operators.Conv.{Conv}
 use Rattle.num_core.specs.declared.operators.Conv.TheVariants.{S8of32, S16of32}
 use Rattle.num_core.specs.Integers.{width_from, width_to}
@@ -23,8 +23,8 @@ use Rattle.core1_ast.specs.declared.module.op.Op1.TheVariants as target_op
 use Rattle.core1_ast.specs.declared.module.ty.Ty1.{Ty1}
 use Rattle.core1_ast.specs.declared.module.ty.Ty1.TheVariants as types1
 use Rattle.core1_ast.specs.Typing as old
-use Rattle.read_new.specs.Core.{IsCore, core_type}
-use Rattle.read_new.specs.Typing as new
+use Rattle.lower_tool.specs.Core.{IsCore, core_type}
+use Rattle.lower_tool.specs.CoreTyping as new
 use Rattle.lower_tool.specs.Constants.{ConstantFits, HasFittingConstants}
 use Rattle.lower_tool.specs.Lowered.{lowered, lowered_instruction, lowered_pure, lowered_type, lowered_body, lowered_export, shifts_by}
 use Rattle.lower_tool.specs.Mapping.{flattened}
@@ -84,9 +84,9 @@ module _ (ctx : new.Context) (c : old.Context) (same : c.locals ≡ flat ctx.loc
   typed_instruction i below takes gives (new.i32_const _ _ n e) =
       subst (λ j. old.TypedCode c (lowered_instruction j) (flat below ++ []) (flat below ++ types1.I32 ∷ [])) (sym e)
       (subst (λ before. old.TypedCode c (target.Pure (target_op.I32Const n) ∷ []) before (flat below ++ types1.I32 ∷ [])) (sym (append-nil (flat below))) (constant c n (flat below)))
-  typed_instruction i below takes gives (new.binary _ _ op e) =
-      subst (λ j. old.TypedCode c (lowered_instruction j) (flat below ++ types1.I32 ∷ (types1.I32 ∷ [])) (flat below ++ types1.I32 ∷ [])) (sym e) (operator c op (flat below))
-  typed_instruction i below takes gives (new.convert _ _ op e from to) =
+  typed_instruction i below takes gives (new.add _ _ e) =
+      subst (λ j. old.TypedCode c (lowered_instruction j) (flat below ++ types1.I32 ∷ (types1.I32 ∷ [])) (flat below ++ types1.I32 ∷ [])) (sym e) (operator c Add (flat below))
+  typed_instruction i below takes gives (new.extend _ _ op e from to) =
       subst (λ j. old.TypedCode c (lowered_instruction j) (flat below ++ types1.I32 ∷ []) (flat below ++ types1.I32 ∷ [])) (sym e) (typed_convert c op below from to)
   typed_instruction i below takes gives (new.local_get _ _ x t e got) =
       let found = flat_local ctx.locals x t all got in

@@ -1,8 +1,8 @@
 -- What a command leaves behind at each of its statuses.
 use Rattle.std.specs.Prelude.{◌≡◌, ℕ, ◌+◌, ◌≤◌, List, [], ◌∷◌, ◌++◌, length, Option, ◌⊎◌}
 use Rattle.std.specs.Io.KnownBytes.{Appends, Consumes}
-use Rattle.lower_tool.specs.Causes.{Rose}
-use Rattle.lower_tool.specs.Held.{Contents, Sets, WhereTold}
+use Rattle.tool_files.specs.Causes.{Rose}
+use Rattle.tool_files.specs.Held.{Contents, Sets, WhereTold}
 use Rattle.lower_tool.specs.Lowering.{Lowers, default_captures}
 use Rattle.lower_tool.specs.Verdict.{file_limit, IsFine}
 

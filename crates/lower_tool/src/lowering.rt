@@ -1,27 +1,29 @@
 // From the bytes of a core module of 3.0 to the bytes of a module of 1.0.
 
-ghost use Rattle.std.specs.Prelude.{◌≡◌, ◌≤◌, length, IfOk, IfErr, OnOk};
-ghost use Rattle.lower_tool.specs.Lowering.{IsCoreFile, Lowers, default_captures};
+ghost use Rattle.std.specs.Prelude.{◌≡◌, ℕ, ◌≤◌, length, IfOk, IfErr, OnOk};
+ghost use Rattle.lower_tool.specs.Core.{IsCore};
+ghost use Rattle.lower_tool.specs.Lowering.{IsCoreFile, IsWrittenFor, Lowers, default_captures};
 ghost use Rattle.lower_tool.specs.Stops.{IfNotLowered, fault_of};
 ghost use Rattle.lower_tool.specs.Verdict.{Refuses};
 
 mod code;
 mod module;
 
+use crate::core_file::is_core_file;
 use crate::verdict::Refusal;
 use core1_bytes::write1;
 use module::lower_core;
 use num_core::lists::Bytes;
-use read_new::{ReadFault, is_core_file, read};
+use read_new::{ReadFault, read};
 use std::alloc::{AllocError, Global};
 use thiserror::Error;
-use wasm_frame::sections::FrameFault;
+use wasm_ast::module::Module;
 
 /// Why bytes were not lowered.
 #[derive(Debug, Drop, Error)]
 pub enum LowerFault {
     /// The verdict on them is not fine.
-    #[error("refused")]
+    #[error("refused: {0}")]
     Refused(Refusal),
     /// No memory was found.
     #[error("out of memory")]
@@ -43,16 +45,8 @@ impl From<ReadFault> for LowerFault {
 
     fn from(error: ReadFault) -> LowerFault {
         match error {
-            ReadFault::Frame(FrameFault::BadHead) => LowerFault::Refused(Refusal::BadHead),
-            ReadFault::Frame(FrameFault::BadSize) => LowerFault::Refused(Refusal::BadSize),
-            ReadFault::Frame(FrameFault::BadOrder) => LowerFault::Refused(Refusal::BadOrder),
-            ReadFault::Section(place) => LowerFault::Refused(Refusal::Section(place)),
-            ReadFault::Body(place) => LowerFault::Refused(Refusal::Body(place)),
-            ReadFault::Counts => LowerFault::Refused(Refusal::Counts),
-            ReadFault::Limit(kind) => LowerFault::Refused(Refusal::Limit(kind)),
-            ReadFault::Frame(FrameFault::Memory(error)) | ReadFault::Memory(error) => {
-                LowerFault::Memory(error)
-            }
+            ReadFault::Memory(error) => LowerFault::Memory(error),
+            fault => LowerFault::Refused(Refusal::Unreadable(fault)),
         }
     }
 }
@@ -70,7 +64,15 @@ pub fn lower_bytes(alloc: Global, bytes: &[u8]) -> Result<Bytes, LowerFault>
     if !is_core_file(alloc, bytes, &source)? {
         return Err(LowerFault::Refused(Refusal::NotBuiltCore));
     }
-    let output = lower_core(alloc, &source)?;
+    Ok(write_lowered(alloc, &source)?)
+}
+
+/// The bytes of the lowered module of a core module. It fails for want of memory alone.
+fn write_lowered(alloc: Global, source: &Module) -> Result<Bytes, AllocError>
+    requires { IsCore source.now }
+    ensures { IfOk result (λ written. (captures : ℕ) → IsWrittenFor captures source.now written) }
+{
+    let output = lower_core(alloc, source)?;
     let written = write1(alloc, &output)?;
     Ok(written)
 }

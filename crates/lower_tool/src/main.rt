@@ -1,7 +1,7 @@
 // The program `wasm1`: it lowers a module of WebAssembly 3.0 to a module of 1.0.
 #![tactic(auto)]
 
-pub mod calls;
+mod core_file;
 pub mod files;
 pub mod laws;
 pub mod lowering;

@@ -1,22 +1,23 @@
 // The commands: their words, what they read and write, and how they end.
 
 ghost use Rattle.std.specs.Prelude.{◌≡◌, ◌≢◌, ℕ, ◌≤◌, List, ◌++◌, ◌⊎◌, ◌↔◌, IsTrue, IfSome, codes};
-ghost use Rattle.lower_tool.specs.Causes.{Rose};
+ghost use Rattle.tool_files.specs.Causes.{Rose};
 ghost use Rattle.core1_bytes.specs.Spells.{Spells1};
 ghost use Rattle.lower_tool.specs.Headline.{Same};
-ghost use Rattle.lower_tool.specs.Held.{Told, WhereTold};
+ghost use Rattle.lower_tool.specs.MappedInterface.{SameInterface};
+ghost use Rattle.meaning_core1.specs.Covered.{IsCovered};
+ghost use Rattle.tool_files.specs.Held.{Told, WhereTold};
 ghost use Rattle.lower_tool.specs.Statuses.{Prints, Lowered, CutShort, TakesWithinLimit, line};
 ghost use Rattle.lower_tool.specs.Stops.{line_of, status_of};
 ghost use Rattle.lower_tool.specs.Verdict.{IsFine, IsRefusal};
 ghost use Rattle.lower_tool.specs.Words.{IsCommand, ByLower, IfLower};
 ghost use Rattle.core1_ast.specs.Typing.{Typed1};
 ghost use Rattle.core1_ast.specs.declared.module.parts.Module1.{Module1};
-ghost use Rattle.read_new.specs.CoreFiles.{SpellsCore};
+ghost use Rattle.lower_tool.specs.CoreFiles.{SpellsCore};
 ghost use Rattle.wasm_ast.specs.declared.module.parts.Module.{Module};
 
 mod command;
 mod input;
-mod line;
 mod output;
 mod prepare;
 mod print;
@@ -40,10 +41,11 @@ pub fn tool<F: Files, S: Sink>(alloc: Global, words: &Texts, files: &mut F, out:
     ensures statuses { result ≤ 5 }
     ensures usage { (result ≡ 2) ↔ (¬ IsCommand words.now) }
 
-    // The headline: the input is fine, and the output spells a module that the rules of 1.0 type and that shows what
-    // the input's module shows, for every fitting script and number of turns, in at most 4 d + 16 live frames.
+    // The headline: the input is fine, and the output spells a module that the rules of 1.0 type, that has the input's
+    // imports and exports and no others, and that shows what the input's module shows, for every fitting script and
+    // number of turns, in at most 4 d + 16 live frames. The output has nothing that our meaning of 1.0 does not cover.
     ensures lowered { result ≡ 0 → ByLower words.now (Lowered (F.holds files.old) (F.holds files.new)
-        (λ bytes written. (m : Module) × (m1 : Module1) × SpellsCore bytes m × Spells1 written m1 × Typed1 m1 × Same 4 16 m m1 4096)) }
+        (λ bytes written. (m : Module) × SpellsCore bytes m × ((m1 : Module1) × Spells1 written m1 × Typed1 m1 × IsCovered m1 × SameInterface m m1 × Same 4 16 m m1 4096))) }
     ensures refused { result ≡ 1 → ByLower words.now (λ input output. (text : List ℕ) × WhereTold (F.holds files.old) input (λ bytes. IsRefusal bytes text)
         × Prints (S.written out.old) (S.written out.new) (S.faults out.old) (S.faults out.new) (line (codes "refused: " ++ text))) }
     ensures refuses { IfLower words.now (λ input output. Told (F.holds files.old) input (λ bytes. ¬ IsFine bytes)
@@ -93,12 +95,21 @@ pub fn usage<S: Sink>(out: &mut S) -> u8
     status::USAGE
 }
 
-/// Prints why a command stopped, and gives the status for it.
+/// Prints why a command stopped, and gives the status for it. A text without room in a line is want of memory.
 pub fn report<S: Sink>(stop: Stop, out: &mut S) -> u8
-    ensures status { result ≡ status_of stop }
-    ensures prints { Prints (S.written out.old) (S.written out.new) (S.faults out.old) (S.faults out.new) (line_of stop) }
+    ensures status { (result ≡ status_of stop) ⊎ (result ≡ 5) }
+    ensures prints { result ≡ status_of stop → Prints (S.written out.old) (S.written out.new) (S.faults out.old) (S.faults out.new) (line_of stop) }
+    ensures memory { result ≡ 5 → Prints (S.written out.old) (S.written out.new) (S.faults out.old) (S.faults out.new) (line (codes "out of memory")) }
     ensures later { S.faults out.old ≤ S.faults out.new }
 {
-    print(stop.line().as_str().as_bytes(), out);
-    stop.status()
+    match stop.line() {
+        Ok(line) => {
+            print(line.as_str().as_bytes(), out);
+            stop.status()
+        }
+        Err(_) => {
+            print(b"out of memory\n", out);
+            status::OUT_OF_MEMORY
+        }
+    }
 }

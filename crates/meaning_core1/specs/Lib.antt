@@ -4,5 +4,7 @@ pub mod Instructions
 pub mod Functions
 pub mod Modules
 pub mod Fitting
+pub mod Interface
+pub mod Covered
 pub mod Laws
 pub mod Example

@@ -4,5 +4,6 @@ pub mod Instructions
 pub mod Functions
 pub mod Modules
 pub mod Fitting
+pub mod Interface
 pub mod Laws
 pub mod Example

@@ -1,6 +1,4 @@
 pub mod Agreement
-pub mod Arrows
-pub mod CoreFiles
 pub mod Depths
 pub mod Forms
 pub mod Imports

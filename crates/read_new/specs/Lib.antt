@@ -7,7 +7,3 @@ pub mod Made
 pub mod Spells
 pub mod Sizes
 pub mod Reads
-pub mod Core
-pub mod CoreFiles
-pub mod Typing
-pub mod Bare

@@ -121,6 +121,17 @@ module _ {T I : Type 0} (L : Language T I) where
   pub choice_stuck : (ls : List (List T)) (i : I) (dead : Bool) (s : List (Operand T)) (label takes gives : List T) (first second : List I) → Lawful L → L.form ls i ≡ Choice label takes gives first second → (TypedCode L (label ∷ ls) first (known takes) (known gives) → TypedCode L (label ∷ ls) second (known takes) (known gives) → ⊥) → Stuck L ls i dead s
   choice_stuck ls i dead s label takes gives first second laws e never = stuck_by L laws ls i dead s (λ t g o v d m c. (let p = choice_parts label takes gives first second d e in never p.first_inside p.second_inside))
 
+  -- the operands that it takes are not there, whether its code is typed or not
+  pub block_lacks : (ls : List (List T)) (i : I) (dead : Bool) (s : List (Operand T)) (label takes gives : List T) (code : List I) → Lawful L → L.form ls i ≡ Block label takes gives code → fit L.sub dead s (reverse takes) ≡ false → Stuck L ls i dead s
+  block_lacks ls i dead s label takes gives code laws e f = stuck_by L laws ls i dead s (λ t g o v d m c.
+      (let p = block_parts label takes gives code d e in
+      let no : true ≡ false = sym (fitted L laws dead s takes o v (subst (λ l. AllMatch L.sub o l) p.takes_is m) c).0 ∙ f in cc))
+
+  pub choice_lacks : (ls : List (List T)) (i : I) (dead : Bool) (s : List (Operand T)) (label takes gives : List T) (first second : List I) → Lawful L → L.form ls i ≡ Choice label takes gives first second → fit L.sub dead s (reverse (takes ++ L.condition ∷ [])) ≡ false → Stuck L ls i dead s
+  choice_lacks ls i dead s label takes gives first second laws e f = stuck_by L laws ls i dead s (λ t g o v d m c.
+      (let p = choice_parts label takes gives first second d e in
+      let no : true ≡ false = sym (fitted L laws dead s (takes ++ L.condition ∷ []) o v (subst (λ l. AllMatch L.sub o l) (p.takes_is ∙ known_top takes) m) c).0 ∙ f in cc))
+
   module _ (laws : Lawful L) (ls : List (List T)) (i : I) (dead : Bool) (s : List (Operand T)) where
     pub untyped_stuck : L.form ls i ≡ Untyped → Stuck L ls i dead s
     untyped_stuck e = stuck_by L laws ls i dead s (λ t g o v d m c. untyped_never d e)

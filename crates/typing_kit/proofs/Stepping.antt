@@ -1,5 +1,5 @@
 -- A step over the plan of an instruction is right.
-use Rattle.std.proofs.Common.{◌≡◌, Bool, true, false, cond, ◌&&◌, List, [], ◌∷◌, length, drop, reverse, map, refl, sym, subst, ◌∙◌, Option, Some, None}
+use Rattle.std.proofs.Common.{◌≡◌, Bool, true, false, cond, ◌&&◌, List, [], ◌∷◌, length, drop, reverse, map, refl, sym, subst, ◌∙◌, Option, Some, None, ap}
 use Rattle.std.specs.List.{list_all}
 use Rattle.typing_kit.specs.declared.kind.Kind.{Kind}
 use Rattle.typing_kit.specs.declared.kind.Kind.TheVariants.{Plain}
@@ -103,3 +103,30 @@ module _ {T I : Type 0} (L : Language T I) (laws : Lawful L) (ls : List (List T)
   pub step_went : (plan : Plan T) (s t : Stack T) (met : Met T) → IsPlanOf plan (L.form ls i) → IsLeaf plan → (met, t) ≡ stepped L.sub L.of_kind L.condition plan s → Went met s t
   unfolding Goes
   step_went plan s t met form leaf e = subst (λ p. Went p.0 s p.1) (sym e) (step_goes plan s form leaf)
+
+module _ {T : Type 0} (sub : T → T → Bool) (of_kind : Kind → T → Bool) (condition : T) where
+  same_outer : (b : Bool) (m n : Met T) (s t : Stack T) → t.outer ≡ s.outer → (cond {A = Met T × Stack T} b (m, t) (n, s)).1.outer ≡ s.outer
+  same_outer true m n s t e = e
+  same_outer false m n s t e = refl
+
+  any_keeps : (kind : Kind) (gives : List T) (s : Stack T) (o : Option (Operand T)) → (any_step sub of_kind condition kind gives s o).1.outer ≡ s.outer
+  any_keeps kind gives s None = refl
+  any_keeps kind gives s (Some a) = same_outer _ _ _ s _ refl
+
+  select_keeps : (s : Stack T) (a b : Option (Operand T)) → (select_step sub of_kind condition s a b).1.outer ≡ s.outer
+  select_keeps s None b = refl
+  select_keeps s (Some a) None = refl
+  select_keeps s (Some a) (Some b) = same_outer _ _ _ s _ refl
+
+  stepped_keeps : (plan : Plan T) (s : Stack T) → (stepped sub of_kind condition plan s).1.outer ≡ s.outer
+  stepped_keeps plans.Untyped s = refl
+  stepped_keeps (plans.Flat takes top gives) s = same_outer _ _ _ s _ refl
+  stepped_keeps (plans.Any kind gives) s = any_keeps kind gives.now s (topmost s.dead s.top)
+  stepped_keeps plans.Select s = select_keeps s (topmost s.dead (drop 2 s.top)) (topmost s.dead (drop 1 s.top))
+  stepped_keeps (plans.Leaves takes top) s = same_outer _ _ _ s _ refl
+  stepped_keeps (plans.Table last others) s = same_outer _ _ _ s _ refl
+  stepped_keeps plans.Nested s = refl
+
+  -- the operands of the blocks around stay
+  pub step_keeps : (plan : Plan T) (s t : Stack T) (met : Met T) → (met, t) ≡ stepped sub of_kind condition plan s → t.outer ≡ s.outer
+  step_keeps plan s t met e = ap (λ p. p.1.outer) e ∙ stepped_keeps plan s

@@ -1,8 +1,10 @@
-// Tests of `wasm_ast` with ample memory, in a crate of their own, since a crate with tests is proved twice.
+// Tests of `wasm_ast` and `core1_ast` with ample memory, in a crate of their own, since a crate with tests is proved twice.
 #![tactic(auto)]
 
 #[cfg(test)]
 mod copies;
+#[cfg(test)]
+mod core1;
 #[cfg(test)]
 mod features;
 #[cfg(test)]

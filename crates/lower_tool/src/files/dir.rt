@@ -1,7 +1,8 @@
-use super::{FileFault, Files, fault};
+use super::{FileFault, Files};
 use std::fs::{self, OpenFile};
 use std::io::{Read, Write};
 use std::rt;
+use tool_files::files::fault;
 
 /// The files of the system. It tells nothing of what they hold.
 #[derive(Drop)]
@@ -28,7 +29,7 @@ impl<'a, R: rt::Files> DirFiles<'a, R> {
 
 impl<R: rt::Files> Files for DirFiles<'_, R> {
     ghost use Rattle.std.specs.Prelude.{None, is_some, if◌then◌else◌, ⊤};
-    ghost use Rattle.lower_tool.specs.Held.{unnamed, nothing};
+    ghost use Rattle.tool_files.specs.Held.{unnamed, nothing};
 
     ghost holds = { λ _. None };
 

@@ -3,9 +3,11 @@
 ghost use Rattle.std.specs.Prelude.{◌≡◌, ◌∷◌, [], ◌++◌, ℕ, map, IfOk, IsTrue, OnOk};
 ghost use Rattle.std.specs.List.{AllByRecursion, flat_map};
 ghost use Rattle.core1_ast.specs.Typing.{Typed1};
-ghost use Rattle.read_new.specs.Core.{IsCore};
+ghost use Rattle.lower_tool.specs.Core.{IsCore};
 ghost use Rattle.lower_tool.specs.Constants.{HasFittingConstants};
 ghost use Rattle.lower_tool.specs.Headline.{Same};
+ghost use Rattle.lower_tool.specs.MappedInterface.{SameInterface};
+ghost use Rattle.meaning_core1.specs.Covered.{IsCovered};
 ghost use Rattle.lower_tool.specs.Room.{HasRoom};
 ghost use Rattle.lower_tool.specs.Mapping.{flattened};
 ghost use Rattle.lower_tool.specs.Lowered.{lowered, lowered_type, lowered_export, lowered_body, lowered_desc};
@@ -17,11 +19,13 @@ use sqlite_items::Items;
 use std::alloc::{AllocError, Global};
 use wasm_ast::module::{Body, Export, ExportDesc, FuncType, Module, Ty};
 
-/// The module of 1.0 that stands for a core module, typed by the rules of 1.0, and the same to a host under every
-/// fitting script. It fails for want of memory alone; a list of 2^32 items or more has no room.
+/// The module of 1.0 that stands for a core module: typed by the rules of 1.0, linked as the core module is, and the
+/// same to a host under every fitting script. It fails for want of memory alone; a list of 2^32 items or more has no room.
 pub fn lower_core(alloc: Global, source: &Module) -> Result<Module1, AllocError>
     requires { IsCore source.now }
     ensures typed { IfOk result Typed1 }
+    ensures covered { IfOk result IsCovered }
+    ensures interface { IfOk result (SameInterface source.now) }
     ensures same { IfOk result (λ out. (captures : ℕ) → Same 4 16 source.now out captures) }
 {
     let out = lower_module(alloc, source)?;

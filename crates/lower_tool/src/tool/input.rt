@@ -1,6 +1,6 @@
 ghost use Rattle.std.specs.Prelude.{◌≡◌, ℕ, ◌≤◌, List, length, IsTrue, IfOk, IfErr, IfSome, IsErrOf};
-ghost use Rattle.lower_tool.specs.Causes.{Rose};
-ghost use Rattle.lower_tool.specs.Held.{WhereTold};
+ghost use Rattle.tool_files.specs.Causes.{Rose};
+ghost use Rattle.tool_files.specs.Held.{WhereTold};
 ghost use Rattle.lower_tool.specs.Statuses.{TakesWithinLimit};
 ghost use Rattle.lower_tool.specs.Stops.{IfRefused};
 ghost use Rattle.lower_tool.specs.Verdict.{file_limit, Refuses};

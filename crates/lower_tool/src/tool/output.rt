@@ -1,6 +1,6 @@
 ghost use Rattle.std.specs.Prelude.{◌≡◌, ℕ, ◌≤◌, List, length, OnOk, OnErr};
-ghost use Rattle.lower_tool.specs.Causes.{HasCause};
-ghost use Rattle.lower_tool.specs.Held.{Sets, Grows, IsCreated};
+ghost use Rattle.tool_files.specs.Causes.{HasCause};
+ghost use Rattle.tool_files.specs.Held.{Sets, Grows, IsCreated};
 ghost use Rattle.lower_tool.specs.Statuses.{IsFrontOf, LeavesFront};
 
 use crate::files::{FileFault, Files};

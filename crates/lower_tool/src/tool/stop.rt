@@ -1,18 +1,22 @@
-ghost use Rattle.std.specs.Prelude.{◌≡◌, ◌≤◌, length};
-ghost use Rattle.lower_tool.specs.Stops.{line_of, status_of, stop_of};
-ghost use Rattle.lower_tool.specs.declared.tool.stop.Stop.TheVariants.{Refused, CannotRead, OutOfMemory};
-ghost use Rattle.lower_tool.specs.declared.verdict.Refusal.TheVariants.{Limit};
+ghost use Rattle.std.specs.Prelude.{◌≡◌, Some, IfOk};
+ghost use Rattle.lower_tool.specs.Stops.{text_of_stop, line_of, status_of, stop_of};
+ghost use Rattle.lower_tool.specs.declared.tool.stop.Stop.TheVariants.{CannotRead, OutOfMemory};
 
-use super::line::{Line, place_line, whole_line};
 use super::status;
 use crate::files::FileFault;
 use crate::lowering::LowerFault;
 use crate::verdict::Refusal;
-use read_new::Kind;
+use arrayvec::ArrayString;
 use std::alloc::AllocError;
+use std::fmt;
+use std::fmt::Write;
+use thiserror::Error;
+
+/// A line of at most 40 bytes.
+pub type Line = ArrayString<40>;
 
 /// Why a command stops before it writes.
-#[derive(Clone, Copy, Debug, PartialEq, Eq)]
+#[derive(Debug, Drop, Error)]
 pub enum Stop {
     /// The verdict on the input is not fine.
     Refused(Refusal),
@@ -22,10 +26,22 @@ pub enum Stop {
     OutOfMemory,
 }
 
+impl fmt::Display for Stop {
+    ghost output = { λ stop. Some (text_of_stop stop) };
+
+    fn fmt<W: fmt::Write>(&self, f: &mut fmt::Formatter<W>) -> fmt::Result {
+        match self {
+            Stop::Refused(refusal) => write!(f, "refused: {refusal}"),
+            Stop::CannotRead => write!(f, "cannot read"),
+            Stop::OutOfMemory => write!(f, "out of memory"),
+        }
+    }
+}
+
 impl Stop {
     /// The status that the command ends with.
-    pub fn status(self) -> u8
-        ensures { result ≡ status_of self }
+    pub fn status(&self) -> u8
+        ensures { result ≡ status_of self.now }
     {
         match self {
             Stop::Refused(_) => status::REFUSED,
@@ -34,54 +50,13 @@ impl Stop {
         }
     }
 
-    /// The line that is printed.
-    pub fn line(self) -> Line
-        ensures { result.bytes ≡ line_of self }
+    /// The line that is printed. It takes no memory; a text without room in a line is an error.
+    pub fn line(&self) -> Result<Line, fmt::Error>
+        ensures { IfOk result (λ line. line.bytes ≡ line_of self.now) }
     {
-        match self {
-            Stop::Refused(refusal) => refusal_line(refusal),
-            Stop::CannotRead => whole_line("cannot read\n"),
-            Stop::OutOfMemory => whole_line("out of memory\n"),
-        }
-    }
-}
-
-fn refusal_line(refusal: Refusal) -> Line
-    ensures { result.bytes ≡ line_of (Refused refusal) }
-{
-    match refusal {
-        Refusal::TooLarge => whole_line("refused: too large\n"),
-        Refusal::BadHead => whole_line("refused: frame: bad head\n"),
-        Refusal::BadSize => whole_line("refused: frame: bad size\n"),
-        Refusal::BadOrder => whole_line("refused: frame: bad order\n"),
-        Refusal::Section(place) => place_line("refused: section ", place),
-        Refusal::Body(place) => place_line("refused: body ", place),
-        Refusal::Counts => whole_line("refused: counts\n"),
-        Refusal::Limit(kind) => whole_line(limit_line(kind)),
-        Refusal::NotBuiltCore => whole_line("refused: outside: not built core\n"),
-    }
-}
-
-fn limit_line(kind: Kind) -> &'static str
-    ensures line { result.now ≡ line_of (Refused (Limit kind)) }
-    ensures short { length result.now ≤ 40 }
-{
-    match kind {
-        Kind::Types => "refused: limit: types\n",
-        Kind::Imports => "refused: limit: imports\n",
-        Kind::Functions => "refused: limit: functions\n",
-        Kind::Tables => "refused: limit: tables\n",
-        Kind::Memories => "refused: limit: memories\n",
-        Kind::Tags => "refused: limit: tags\n",
-        Kind::Globals => "refused: limit: globals\n",
-        Kind::Exports => "refused: limit: exports\n",
-        Kind::Elements => "refused: limit: elements\n",
-        Kind::Segments => "refused: limit: segments\n",
-        Kind::Parameters => "refused: limit: parameters\n",
-        Kind::Results => "refused: limit: results\n",
-        Kind::Locals => "refused: limit: locals\n",
-        Kind::Payload => "refused: limit: payload\n",
-        Kind::Nesting => "refused: limit: nesting\n",
+        let mut line = ArrayString::new();
+        write!(line, "{self}\n")?;
+        Ok(line)
     }
 }
 

@@ -1,4 +1,3 @@
-use Rattle.read_new.proofs.CoreFiles.{core_is_read}
 use Rattle.module_reading.proofs.OneAnswer.{one_grammar, one_answer}
 use Rattle.read_new.specs.Sizes.{means}
 use Rattle.read_new.specs.Spells.{three}
@@ -10,6 +9,3 @@ returns-clause-modules c = λ b m o h k. one_grammar three means three_laws b m 
 
 pub returns-clause-answers : goal.returns-clause-answers
 returns-clause-answers c = one_answer three means three_laws
-
-pub returns-clause-core : goal.returns-clause-core
-returns-clause-core c = core_is_read

@@ -1,5 +1,8 @@
 use Rattle.std.proofs.Common.{subst, sym}
 use Rattle.core1_ast.specs.Typing.{Typed1}
+use Rattle.meaning_core1.specs.Covered.{IsCovered}
+use Rattle.lower_tool.specs.MappedInterface.{SameInterface}
+use Rattle.lower_tool.proofs.Linked.{covered_lowered, same_interface}
 use Rattle.lower_tool.specs.Headline.{Same}
 use Rattle.lower_tool.specs.Room.{HasRoom}
 use Rattle.lower_tool.proofs.SameEvents.{same_lowered}
@@ -15,3 +18,11 @@ pub returns-then-has_room-clause-same : goal.returns-then-has_room-clause-same
 returns-then-has_room-clause-same c = λ captures.
     subst (λ out. Same 4 16 c.args.source.now out captures) (sym c.in_ok-out.ensures.lowered)
     (same_lowered c.args.source.now captures (sound_core c.args.source.now c.requires (core_constants c.args.source.now c.requires c.in_ok-out.ensures.constants)))
+
+pub returns-then-has_room-clause-covered : goal.returns-then-has_room-clause-covered
+returns-then-has_room-clause-covered c =
+    subst IsCovered (sym c.in_ok-out.ensures.lowered) (covered_lowered c.args.source.now c.requires)
+
+pub returns-then-has_room-clause-interface : goal.returns-then-has_room-clause-interface
+returns-then-has_room-clause-interface c =
+    subst (SameInterface c.args.source.now) (sym c.in_ok-out.ensures.lowered) (same_interface c.args.source.now c.requires)

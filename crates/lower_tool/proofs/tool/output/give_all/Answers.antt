@@ -1,10 +1,10 @@
 use Rattle.std.proofs.Common.{ℕ, List, drop, take, ◌∙◌, arith, length-drop}
 use Rattle.std.proofs.Math.Seq.{take-add}
 use Rattle.std.proofs.lemmas.List.{take_rest}
-use Rattle.lower_tool.specs.Held.{Grows}
+use Rattle.tool_files.specs.Held.{Grows}
 use Rattle.lower_tool.specs.Statuses.{IsFrontOf}
 use Rattle.lower_tool.proofs.KnownLemmas.{IsFrontOf-take, OnErr-anyway}
-use Rattle.lower_tool.proofs.HeldLemmas.{Grows-append}
+use Rattle.tool_files.proofs.HeldLemmas.{Grows-append}
 use Rattle.lower_tool.proofs.tool.output.give_all.Goals as goal
 
 pub returns-in_err-done-clause-cut : goal.returns-in_err-done-clause-cut

@@ -1,5 +1,5 @@
 use Rattle.std.proofs.Common.{length, ◌-◌, ◌≡◌, ℕ, ◌≤◌, List, take}
-use Rattle.lower_tool.specs.Held.{Grows}
+use Rattle.tool_files.specs.Held.{Grows}
 use Rattle.lower_tool.proofs.tool.output.give_all.Given as goal
 
 -- the file has grown by the bytes as far as they are done

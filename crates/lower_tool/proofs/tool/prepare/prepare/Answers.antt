@@ -1,7 +1,7 @@
 use Rattle.std.proofs.Common.{◌≡◌, ◌≤◌, List, ℕ, length, ◌∙◌, subst}
 use Rattle.lower_tool.specs.Lowering.{IsCoreFile, Lowers, default_captures}
 use Rattle.lower_tool.specs.Verdict.{file_limit, IsFine}
-use Rattle.lower_tool.proofs.HeldLemmas.{where_told}
+use Rattle.tool_files.proofs.HeldLemmas.{where_told}
 use Rattle.lower_tool.proofs.tool.prepare.prepare.Goals as goal
 
 -- the bytes that were read are those of the file

@@ -1,8 +1,0 @@
-use Rattle.std.proofs.Common.{[]}
-use Rattle.lower_tool.proofs.PairLemmas.{content_of-at}
-use Rattle.lower_tool.proofs.files.memory.MemFilesFiles.create.Goals as goal
-
-pub returns-in-Ok-clause-empties : goal.returns-in-Ok-clause-empties
-returns-in-Ok-clause-empties c =
-    let made = c.in-Ok.ensures in
-    rw (← c.self.view_is) (content_of-at c.empty_file.new.files.items c.in-Ok.place c.args.name.now [] made.once made.empty, made.others)

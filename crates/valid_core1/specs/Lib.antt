@@ -1,0 +1,5 @@
+pub mod Forms
+pub mod Scopes
+pub mod Checks
+pub mod Parts
+pub mod Verdict

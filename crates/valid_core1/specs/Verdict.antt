@@ -1,0 +1,39 @@
+-- What each answer of `validate1` says of a module.
+use Rattle.std.specs.Prelude.{◌≡◌, ℕ, ◌<◌, length, Result, Ok, Err}
+use Rattle.core1_ast.specs.declared.module.parts.Module1.{Module1}
+use Rattle.core1_ast.specs.Typing.{Typed1}
+use Rattle.valid_core1.specs.declared.invalid.Invalid.{Invalid}
+use Rattle.valid_core1.specs.declared.invalid.Invalid.TheVariants.{Part, Body, Memory}
+use Rattle.valid_core1.specs.Parts.{Section, id, count, PartTyped, BodyTyped}
+
+-- each part of the section is typed
+abbrev pub SectionTyped : Module1 → Section → Type 0
+SectionTyped m s = (k : ℕ) → k < count m s → PartTyped m s k
+
+-- the part at the place of the section is the first that is not typed
+pub record FirstPart (m : Module1) (section : Section) (place : ℕ) : Type 0 where
+  pub within : place < count m section
+  pub sections_before : (s : Section) → id s < id section → SectionTyped m s
+  pub places_before : (k : ℕ) → k < place → PartTyped m section k
+  pub untyped : PartTyped m section place → ⊥
+
+-- all parts are typed, and the body at the place is the first that is not
+pub record FirstBody (m : Module1) (place : ℕ) : Type 0 where
+  pub within : place < length m.codes
+  pub parts : (s : Section) → SectionTyped m s
+  pub places_before : (k : ℕ) → k < place → BodyTyped m k
+  pub untyped : BodyTyped m place → ⊥
+
+-- what the answer says; nothing is said where memory was not found
+abbrev pub Tells : Module1 → Result Module1 Invalid → Type 0
+Tells m (Ok found) = (found ≡ m) × Typed1 m
+Tells m (Err (Part section place)) = (s : Section) × (section ≡ id s) × FirstPart m s place
+Tells m (Err (Body place)) = FirstBody m place
+Tells m (Err (Memory e)) = Unit {0}
+
+-- the same of an answer that is no want of memory
+abbrev pub Settles : Module1 → Result Module1 Invalid → Type 0
+Settles m (Err (Memory e)) = ⊥
+Settles m (Ok found) = Tells m (Ok found)
+Settles m (Err (Part section place)) = Tells m (Err (Part section place))
+Settles m (Err (Body place)) = Tells m (Err (Body place))
