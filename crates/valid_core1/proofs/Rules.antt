@@ -40,14 +40,14 @@ same_type_is types.F32 types.F32 e = refl
 same_type_is types.F64 types.F64 e = refl
 same_type_is _ _ e = let no : ⊥ = cc in absurd no
 
-and_both : (a b : Bool) → a ≡ true → b ≡ true → (a && b) ≡ true
+pub and_both : (a b : Bool) → a ≡ true → b ≡ true → (a && b) ≡ true
 and_both a b p q = ap (λ x. x && b) p ∙ q
 
-and_first : (a b : Bool) → (a && b) ≡ true → a ≡ true
+pub and_first : (a b : Bool) → (a && b) ≡ true → a ≡ true
 and_first true b e = refl
 and_first false b e = e
 
-and_second : (a b : Bool) → (a && b) ≡ true → b ≡ true
+pub and_second : (a b : Bool) → (a && b) ≡ true → b ≡ true
 and_second true b e = e
 and_second false b e = let no : ⊥ = cc in absurd no
 
@@ -125,7 +125,7 @@ are_labels ls ts (l ∷ labels) h = and_both _ _ (is_label_true (slice_get ls l)
 
 module _ (c : Context) (ls : List (List Ty1)) where
   -- the form of an instruction, by what it is laid open
-  laid : (i j : Instr1) (x : Instr1-F Instr1) → i ≡ j → out-Instr1 j ≡ x → (language c).form ls i ≡ form_of (record c { labels = [] }) ls x
+  pub laid : (i j : Instr1) (x : Instr1-F Instr1) → i ≡ j → out-Instr1 j ≡ x → (language c).form ls i ≡ form_of (record c { labels = [] }) ls x
   laid i j x e f = ap (λ k. form_of (record c { labels = [] }) ls (out-Instr1 k)) e ∙ ap (form_of (record c { labels = [] }) ls) f
 
   found_is : {A : Type 0} (o : Option A) (a : A) (k : A → Form Ty1 Instr1) → o ≡ Some a → found o k ≡ k a
