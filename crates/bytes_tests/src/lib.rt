@@ -6,7 +6,15 @@ mod code;
 #[cfg(test)]
 mod core1;
 #[cfg(test)]
+mod forms;
+#[cfg(test)]
+mod frame;
+#[cfg(test)]
+mod nested;
+#[cfg(test)]
 mod opcodes;
+#[cfg(test)]
+mod read;
 #[cfg(test)]
 mod rows;
 #[cfg(test)]

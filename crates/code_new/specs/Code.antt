@@ -4,6 +4,7 @@ use Rattle.std.specs.Prelude.{ℕ, suc, max, List, Bool, true, false}
 use Rattle.wasm_ast.specs.declared.module.code.Instr.{Instr}
 use Rattle.wasm_ast.specs.declared.module.code.Instr.TheOpen.{Instr-F}
 use Rattle.wasm_ast.specs.declared.module.code.Instr.TheFolds.{fold-Instr}
+pub use Rattle.wasm_ast.specs.Counts.{is_data_use, names_data}
 use Rattle.wasm_ast.specs.Occurrence.{Head, head_of, some_in}
 use Rattle.grammar_kit.specs.Form.{Form}
 use Rattle.grammar_kit.specs.Measures.{greatest}
@@ -33,19 +34,9 @@ depth = fold-Instr ℕ depth_step
 abbrev pub depths : List Instr → ℕ
 depths = greatest depth
 
--- an instruction that names a data segment
-abbrev pub is_data_use : Head → Bool
-is_data_use (Instr-F.MemoryInit segment memory) = true
-is_data_use (Instr-F.DataDrop segment) = true
-is_data_use _ = false
-
 -- by itself, whatever stands in its bodies
 abbrev pub uses_data : Instr → Bool
 uses_data i = is_data_use (head_of i)
-
--- whether an instruction of the code names a data segment, at any depth
-abbrev pub names_data : List Instr → Bool
-names_data = some_in is_data_use
 
 -- how deeply instructions nest in code, and whether it names a data segment
 abbrev pub sizes : List Instr → ℕ × Bool

@@ -1,9 +1,10 @@
 //! The binary format of WebAssembly 1.0, read and written.
 //!
-//! `specs/Spells.antt` says which bytes spell a module, in three levels: the frame of sections, which `wasm_frame` has,
-//! the payload of each section by the forms of `specs/Parts.antt`, and each body by those of `specs/Bodies.antt` and
-//! `specs/Instructions.antt`. `specs/Limits.antt` has the limits of a file, and `specs/Reads.antt` says what each answer
-//! to reading means. `read1` measures a file before it builds anything of it; `write1` takes typed modules alone.
+//! `specs/Spells.antt` says which bytes spell a module: the record `one` is what tells 1.0 from other versions, and the
+//! crate module_reading says the rest, what each answer to reading means among it. Payloads are spelled by the forms of
+//! `specs/Parts.antt`, bodies by those of `specs/Bodies.antt`, `specs/Tokens.antt` and `specs/Instructions.antt`;
+//! `specs/Limits.antt` has the limits of a file. `read1` measures a file before it builds anything of it; `write1` takes
+//! typed modules alone.
 #![tactic(auto)]
 
 mod body;

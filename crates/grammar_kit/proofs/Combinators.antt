@@ -5,7 +5,7 @@ use Rattle.std.proofs.lemmas.Option.{option_and_then_some, some_pair_parts}
 use Rattle.std.proofs.lemmas.Bool.{ltb-false, le-ltb}
 use Rattle.std.proofs.lemmas.List.{take_at, drop_at, take-append-drop, length-append, length-take}
 use Rattle.grammar_kit.specs.Form.{Form, never, always, first, byte, raw, when, ◌>>=◌, many, vector}
-use Rattle.grammar_kit.specs.Choice.{choice, given, given_or}
+use Rattle.grammar_kit.specs.Choice.{given, given_or}
 use Rattle.grammar_kit.specs.Exact.{Exact}
 
 pub exact_never : {X : Type 0} → Exact (never {X = X})
@@ -71,10 +71,6 @@ exact_many f (suc n) ef = exact_bind _ _ ef (λ x. exact_bind _ _ (exact_many f 
 pub exact_vector : {X : Type 0} (count : Form ℕ) (f : Form X) → Exact count → Exact f → Exact (vector count f)
 exact_vector count f ec ef = exact_bind _ _ ec (λ n. exact_many f n ef)
 
-pub exact_choice : {A X : Type 0} (o : Option A) (f : A → Form X) (g : Form X) → ((a : A) → Exact (f a)) → Exact g → Exact (choice o f g)
-exact_choice (Some a) f g ef eg = record { sound = (ef a).sound; complete = (ef a).complete }
-exact_choice None f g ef eg = record { sound = eg.sound; complete = eg.complete }
-
 pub exact_given : {X : Type 0} (o : Option X) → Exact (given o)
 exact_given (Some x) = exact_always x
 exact_given None = exact_never
@@ -83,4 +79,4 @@ pub exact_given_or : {X : Type 0} (o : Option X) (f : Form X) → Exact f → Ex
 exact_given_or (Some x) f ef = exact_always x
 exact_given_or None f ef = ef
 
-pub ruleset exact_rules = (exact_never, exact_always, exact_byte, exact_raw, exact_when, exact_bind, exact_many, exact_vector, exact_choice, exact_given, exact_given_or)
+pub ruleset exact_rules = (exact_never, exact_always, exact_byte, exact_raw, exact_when, exact_bind, exact_many, exact_vector, exact_given, exact_given_or)

@@ -15,6 +15,3 @@ pub use bytes::{read_byte, read_raw};
 pub use entry::{Entry, read_many};
 pub use error::FormError;
 pub use measure::{Dropped, Extent, Measure, measure_many};
-
-#[cfg(test)]
-mod tests;

@@ -6,6 +6,10 @@ use Rattle.module_reading.specs.declared.kind.Kind.{Kind}
 use Rattle.module_reading.specs.declared.kind.Kind.TheVariants as kind
 use Rattle.module_reading.specs.Format.{Format}
 
+-- the most bytes that a file may have
+abbrev pub file_limit : ℕ
+file_limit = 67108864
+
 -- the kinds whose numbers are known before anything of the module is built
 abbrev pub front_kinds : List Kind
 front_kinds =

@@ -6,6 +6,9 @@ use std::marker::Model;
 use wasm_frame::payloads::{number_of, payload_of, vector_of};
 use wasm_frame::sections::{FrameFault, Section, Sections, Version, sections};
 
+/// The most bytes that a file may have.
+pub const FILE_LIMIT: usize = 67_108_864;
+
 /// The bytes of a file with its sections in place ("Modules" of the standard).
 #[derive(Drop)]
 pub struct File<'a> {

@@ -19,7 +19,7 @@ mod sizes;
 
 pub use bodies::{BodyExtent, BodySizes};
 pub use fault::ReadFault;
-pub use file::File;
+pub use file::{FILE_LIMIT, File};
 pub use format::ModuleFormat;
 pub use kind::Kind;
 pub use numbers::Numbers;

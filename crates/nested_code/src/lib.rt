@@ -20,6 +20,3 @@ pub use measuring::{ExprSizes, measure_expr};
 pub use open_block::OpenBlock;
 pub use reading::read_expr;
 pub use token::Token;
-
-#[cfg(test)]
-mod tests;

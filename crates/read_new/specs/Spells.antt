@@ -10,7 +10,7 @@ use Rattle.wasm_frame.specs.Frame.{Part}
 use Rattle.wasm_frame.specs.Payloads.{Content, IsSpelled}
 use Rattle.module_reading.specs.Format.{Format}
 use Rattle.module_reading.specs.Spells as shared
-use Rattle.code_new.specs.Code.{names_data}
+pub use Rattle.wasm_ast.specs.Counts.{Agrees}
 use Rattle.read_new.specs.Bodies.{body}
 use Rattle.read_new.specs.Limits.{number, limit}
 use Rattle.read_new.specs.Parts.{type_section, import_section, func_section, table_section, memory_section, tag_section, global_section, export_section, start_section, element_section, data_count_section, data_section}
@@ -45,12 +45,6 @@ pub record Contents (parts : List Part) (m : Module) : Type 0 where
   pub elems : Content 9 element_section [] parts m.elems
   pub data_count : Content 12 data_count_section None parts m.data_count
   pub datas : Content 11 data_section [] parts m.datas
-
--- the counts of a module agree: each function has a body, a data count is that of the data segments, and without one no
--- body names a data segment
-pub record Agrees (m : Module) : Type 0 where
-  pub bodies : length m.funcs ≡ length m.codes
-  pub segments : MatchOption m.data_count (AllByRecursion (λ body. ¬ (IsTrue (names_data body.code))) m.codes) (λ n. n ≡ length m.datas)
 
 -- 3.0 as a version of the binary format
 abbrev pub three : Format Module

@@ -2,6 +2,7 @@ ghost use Rattle.std.specs.Prelude.{◌≡◌, ◌≤◌, length, Result};
 ghost use Rattle.wasm_ast.specs.declared.module.parts.Module.{Module};
 ghost use Rattle.wasm_frame.specs.declared.sections.Version.TheVariants as version;
 ghost use Rattle.module_reading.specs.declared.fault.ReadFault.{ReadFault};
+ghost use Rattle.module_reading.specs.Limits.{file_limit};
 ghost use Rattle.module_reading.specs.Reads.{UnlessMemory};
 ghost use Rattle.read_new.specs.Reads.{Reads, Tells};
 
@@ -15,7 +16,7 @@ use wasm_ast::module::Module;
 /// grammar; a body is not; the counts disagree; a limit is passed. Nothing of a size that a limit bounds is built
 /// before that limit was tested. Time and memory are linear in the file, and nothing recurses on its contents.
 pub fn read(alloc: Global, b: &[u8]) -> Result<Module, ReadFault>
-    requires { length b.now ≤ 67108864 }
+    requires { length b.now ≤ file_limit }
     ensures tells { Tells b.now result }
     ensures only { UnlessMemory result ((other : Result Module ReadFault) → Reads b.now other → other ≡ result) }
 {

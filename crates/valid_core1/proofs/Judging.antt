@@ -1,10 +1,13 @@
 -- What the checks of instructions and of code find, against the rules.
-use Rattle.std.proofs.Common.{◌≡◌, ℕ, ◌+◌, ◌↔◌, Bool, true, false, ◌&&◌, List, [], ◌∷◌, ◌++◌, length, drop, reverse, map, refl, ap, sym, subst, ◌∙◌}
-use Rattle.std.proofs.lemmas.List.{reverse-append, map-append}
+use Rattle.std.proofs.Common.{◌≡◌, ℕ, ◌+◌, ◌<◌, ◌↔◌, get_or, Bool, true, false, ◌&&◌, List, [], ◌∷◌, ◌++◌, length, drop, reverse, map, refl, ap, sym, subst, ◌∙◌}
+use Rattle.std.proofs.lemmas.List.{reverse-append, drop_more}
 use Rattle.core1_ast.specs.declared.module.ty.Ty1.{Ty1}
 use Rattle.core1_ast.specs.declared.module.ty.Ty1.TheVariants as types
 use Rattle.core1_ast.specs.declared.module.ty.BlockType1.{BlockType1}
+use Rattle.core1_ast.specs.declared.module.ty.BlockType1.TheVariants as blocks
 use Rattle.core1_ast.specs.declared.module.code.Instr1.{Instr1}
+use Rattle.core1_ast.specs.declared.module.code.Instr1.TheVariants as instrs
+use Rattle.core1_ast.specs.declared.module.code.Instr1.TheViews as views
 use Rattle.core1_ast.specs.Operands.{block_results}
 use Rattle.typing_kit.specs.declared.plan.Plan.{Plan}
 use Rattle.typing_kit.specs.declared.plan.Met.{Met}
@@ -24,7 +27,7 @@ use Rattle.valid_core1.specs.declared.scope.Scope.{Scope}
 use Rattle.valid_core1.specs.Forms.{same_type, of_kind, language, is_block, is_short, where_true}
 use Rattle.valid_core1.specs.Scopes.{context_of, label_types}
 use Rattle.valid_core1.specs.Checks.{Judged, IsInside, IsBlock, IsChoice, Decided}
-use Rattle.valid_core1.proofs.Rules.{same_type_refl, same_type_is}
+use Rattle.valid_core1.proofs.Rules.{same_type_refl, same_type_is, laid}
 
 module _ (s : Scope) where
   laws : Lawful (language (context_of s))
@@ -123,3 +126,56 @@ module _ (s : Scope) where
       λ w. (let fits = (ended (language (context_of s)) laws (label_types labels) stack.dead stack.top (block_results type)).1
           (subst (λ l. From (language (context_of s)) (label_types labels) stack.dead stack.top l (known (block_results type))) e (so_far.1 w)) in
           let no : true ≡ false = sym fits ∙ sym f in cc)
+
+-- what a decided fact is at an answer
+pub decided_yes : (r : Bool) (P : Type 0) → Decided r P → r ≡ true → P
+decided_yes true P d e = d
+decided_yes false P d e = let no : ⊥ = cc in absurd no
+
+pub decided_no : (r : Bool) (P : Type 0) → Decided r P → r ≡ false → P → ⊥
+decided_no true P d e = let no : ⊥ = cc in absurd no
+decided_no false P d e = d
+
+-- a judgement at an answer, and where the labels are those before
+pub judged_at : (s : Scope) (labels old_labels : List BlockType1) (i : Instr1) (before after : Stack Ty1) (r b : Bool) → labels ≡ old_labels → r ≡ b → Judged s labels i before after r → Judged s old_labels i before after b
+judged_at s labels old_labels i before after r b e f j = subst (λ l. Judged s l i before after b) e (subst (λ x. Judged s labels i before after x) f j)
+
+pub inside_at : (s : Scope) (labels old_labels : List BlockType1) (label type : BlockType1) (code : List Instr1) → labels ≡ old_labels → IsInside s labels label type code → IsInside s old_labels label type code
+inside_at s labels old_labels label type code e h = subst (λ l. IsInside s l label type code) e h
+
+-- results put on operands that are as before
+pub pushed : (old mid new : Stack Ty1) (rs : List Ty1) (type : BlockType1) → mid ≡ old → rs ≡ block_results type → new ≡ record mid { top = reverse (known rs) ++ mid.top } → new ≡ record old { top = reverse (known (block_results type)) ++ old.top }
+pushed old mid new rs type e f g = g ∙ ap (λ (m : Stack Ty1). let r : Stack Ty1 = record m { top = reverse (known rs) ++ m.top } in r) e ∙ ap (λ l. let r : Stack Ty1 = record old { top = reverse (known l) ++ old.top } in r) f
+
+pub pushed_under : (old mid new : Stack Ty1) (rs : List Ty1) (type : BlockType1) → mid ≡ record old { top = drop 1 old.top } → rs ≡ block_results type → new ≡ record mid { top = reverse (known rs) ++ mid.top } → new ≡ record old { top = reverse (known (block_results type)) ++ drop 1 old.top }
+pushed_under old mid new rs type e f g = g ∙ ap (λ (m : Stack Ty1). let r : Stack Ty1 = record m { top = reverse (known rs) ++ m.top } in r) e ∙ ap (λ l. let r : Stack Ty1 = record old { top = reverse (known l) ++ drop 1 old.top } in r) f
+
+-- the forms of what holds code
+
+pub block_is : (s : Scope) (labels : List BlockType1) (type : BlockType1) (code : List Instr1) (i : Instr1) → i ≡ instrs.Block type code → IsBlock s labels type type code i
+unfolding IsBlock
+block_is s labels type code i e = laid (context_of s) (label_types labels) i _ _ e (views.outs-Block type code)
+
+pub loop_is : (s : Scope) (labels : List BlockType1) (type : BlockType1) (code : List Instr1) (i : Instr1) → i ≡ instrs.Loop type code → IsBlock s labels blocks.Empty type code i
+unfolding IsBlock
+loop_is s labels type code i e = laid (context_of s) (label_types labels) i _ _ e (views.outs-Loop type code)
+
+pub choice_is : (s : Scope) (labels : List BlockType1) (type : BlockType1) (first second : List Instr1) (i : Instr1) → i ≡ instrs.If type first second → IsChoice s labels type first second i
+unfolding IsChoice
+choice_is s labels type first second i e = laid (context_of s) (label_types labels) i _ _ e (views.outs-If type first second)
+
+-- the start of a loop over code
+pub code_starts : (s : Scope) (labels pushed : List BlockType1) (label type : BlockType1) (code : List Instr1) (stack : Stack Ty1) (outer : List (Operand Ty1)) → pushed ≡ labels ++ label ∷ [] → stack ≡ record { outer = outer; top = []; dead = false } → From (language (context_of s)) (label_types pushed) stack.dead stack.top code (known (block_results type)) ↔ IsInside s labels label type code
+code_starts s labels pushed label type code stack outer e f =
+    subst (λ (k : Stack Ty1). From (language (context_of s)) (label_types pushed) k.dead k.top code (known (block_results type)) ↔ IsInside s labels label type code) (sym f)
+    (code_begins s labels pushed label type code e)
+
+pub drop_at_item : (code : List Instr1) (k : ℕ) (i : Instr1) → k < length code → i ≡ get_or code k i → drop k code ≡ i ∷ drop (k + 1) code
+drop_at_item code k i h e = drop_more code k i h ∙ ap (λ x. x ∷ drop (k + 1) code) (sym e)
+
+pub judged_outer : (s : Scope) (labels : List BlockType1) (i : Instr1) (before after : Stack Ty1) → Judged s labels i before after true → after.outer ≡ before.outer
+unfolding Judged
+judged_outer s labels i before after j = j.1
+
+pub under_labels : (s : Scope) (labels new_labels : List BlockType1) (stack : Stack Ty1) (code : List Instr1) (after : List (Operand Ty1)) (W : Type 0) → new_labels ≡ labels → (From (language (context_of s)) (label_types labels) stack.dead stack.top code after ↔ W) → From (language (context_of s)) (label_types new_labels) stack.dead stack.top code after ↔ W
+under_labels s labels new_labels stack code after W e h = subst (λ l. From (language (context_of s)) (label_types l) stack.dead stack.top code after ↔ W) (sym e) h

@@ -40,14 +40,14 @@ same_type_is types.F32 types.F32 e = refl
 same_type_is types.F64 types.F64 e = refl
 same_type_is _ _ e = let no : ⊥ = cc in absurd no
 
-and_both : (a b : Bool) → a ≡ true → b ≡ true → (a && b) ≡ true
+pub and_both : (a b : Bool) → a ≡ true → b ≡ true → (a && b) ≡ true
 and_both a b p q = ap (λ x. x && b) p ∙ q
 
-and_first : (a b : Bool) → (a && b) ≡ true → a ≡ true
+pub and_first : (a b : Bool) → (a && b) ≡ true → a ≡ true
 and_first true b e = refl
 and_first false b e = e
 
-and_second : (a b : Bool) → (a && b) ≡ true → b ≡ true
+pub and_second : (a b : Bool) → (a && b) ≡ true → b ≡ true
 and_second true b e = e
 and_second false b e = let no : ⊥ = cc in absurd no
 
@@ -62,13 +62,13 @@ same_types_are (s ∷ ss) [] e = let no : ⊥ = cc in absurd no
 same_types_are (s ∷ ss) (t ∷ ts) e =
     ap (λ l. s ∷ l) (same_types_are ss ts (and_second (same_type s t) _ e)) ∙ ap (λ x. x ∷ ts) (same_type_is s t (and_first _ (same_types ss ts) e))
 
-integer_typed : (t : Ty1) → is_integer t ≡ true → TypedTy t
+pub integer_typed : (t : Ty1) → is_integer t ≡ true → TypedTy t
 integer_typed types.I32 e = tt
 integer_typed types.I64 e = tt
 integer_typed types.F32 e = let no : ⊥ = cc in absurd no
 integer_typed types.F64 e = let no : ⊥ = cc in absurd no
 
-typed_integer : (t : Ty1) → TypedTy t → is_integer t ≡ true
+pub typed_integer : (t : Ty1) → TypedTy t → is_integer t ≡ true
 typed_integer types.I32 h = refl
 typed_integer types.I64 h = refl
 typed_integer types.F32 h = absurd h
@@ -125,10 +125,10 @@ are_labels ls ts (l ∷ labels) h = and_both _ _ (is_label_true (slice_get ls l)
 
 module _ (c : Context) (ls : List (List Ty1)) where
   -- the form of an instruction, by what it is laid open
-  laid : (i j : Instr1) (x : Instr1-F Instr1) → i ≡ j → out-Instr1 j ≡ x → (language c).form ls i ≡ form_of (record c { labels = [] }) ls x
+  pub laid : (i j : Instr1) (x : Instr1-F Instr1) → i ≡ j → out-Instr1 j ≡ x → (language c).form ls i ≡ form_of (record c { labels = [] }) ls x
   laid i j x e f = ap (λ k. form_of (record c { labels = [] }) ls (out-Instr1 k)) e ∙ ap (form_of (record c { labels = [] }) ls) f
 
-  found_is : {A : Type 0} (o : Option A) (a : A) (k : A → Form Ty1 Instr1) → o ≡ Some a → found o k ≡ k a
+  pub found_is : {A : Type 0} (o : Option A) (a : A) (k : A → Form Ty1 Instr1) → o ≡ Some a → found o k ≡ k a
   found_is o a k e = ap (λ x. found x k) e
 
   where_is : (b : Bool) (form : Form Ty1 Instr1) → b ≡ true → where_true b form ≡ form
@@ -137,7 +137,7 @@ module _ (c : Context) (ls : List (List Ty1)) where
 -- from the rules of 1.0 to those over forms
 
 mutual
-  to_forms : {c : Context} {i : Instr1} {takes gives : List Ty1} → Typed c i takes gives → ValuesTyped (language c) c.labels i takes gives
+  pub to_forms : {c : Context} {i : Instr1} {takes gives : List Ty1} → Typed c i takes gives → ValuesTyped (language c) c.labels i takes gives
   to_forms (code.pure c i op e) = values.flat c.labels i (op_takes op) (op_gives op) (laid c c.labels i _ _ e (views.outs-Pure op))
   to_forms (code.drop c i t e) = values.any c.labels i kinds.Every [] t (laid c c.labels i _ _ e views.outs-Drop) refl
   to_forms (code.select c i t e) = values.select c.labels i t (laid c c.labels i _ _ e views.outs-Select) refl
@@ -193,7 +193,7 @@ module _ (c : Context) (ls : List (List Ty1)) (i : Instr1) where
   rule_where false form h = tt
 
   -- the instruction, by what it is laid open
-  rolled : (x : Instr1-F Instr1) (j : Instr1) → out-Instr1 i ≡ x → roll-Instr1 x ≡ j → i ≡ j
+  pub rolled : (x : Instr1-F Instr1) (j : Instr1) → out-Instr1 i ≡ x → roll-Instr1 x ≡ j → i ≡ j
   rolled x j e f = sym (views.roll-out-Instr1 i) ∙ ap roll-Instr1 e ∙ f
 
   rule_of : (x : Instr1-F Instr1) → out-Instr1 i ≡ x → Rule c ls i (form_of (under c []) ls x)

@@ -1,17 +1,18 @@
 -- What the checks of instructions and of code say.
-use Rattle.std.specs.Prelude.{◌≡◌, Bool, true, false, ◌&&◌, List, [], ◌∷◌}
+use Rattle.std.specs.Prelude.{◌≡◌, Bool, true, false, ◌&&◌, List, [], ◌∷◌, drop}
 use Rattle.core1_ast.specs.declared.module.ty.Ty1.{Ty1}
+use Rattle.core1_ast.specs.declared.module.ty.Ty1.TheVariants.{I32}
 use Rattle.core1_ast.specs.declared.module.ty.BlockType1.{BlockType1}
 use Rattle.core1_ast.specs.declared.module.code.Instr1.{Instr1}
 use Rattle.core1_ast.specs.declared.module.code.Instr1.TheOpen.{Instr1-F}
 use Rattle.core1_ast.specs.Operands.{block_results}
-use Rattle.typing_kit.specs.Stack.{Stack}
+use Rattle.typing_kit.specs.Stack.{Stack, fit}
 use Rattle.typing_kit.specs.Matching.{known}
 use Rattle.typing_kit.specs.Typing.{TypedCode}
 use Rattle.typing_kit.specs.Form.{Block, Choice}
 use Rattle.typing_kit.specs.Progress.{Leads, Stuck}
 use Rattle.valid_core1.specs.declared.scope.Scope.{Scope}
-use Rattle.valid_core1.specs.Forms.{language, where_true, is_block, is_short}
+use Rattle.valid_core1.specs.Forms.{same_type, language, where_true, is_block, is_short}
 use Rattle.valid_core1.specs.Scopes.{context_of, label_types}
 
 -- the instruction holds no code
@@ -40,6 +41,12 @@ IsBlock s labels label type code i =
 unfoldable pub IsChoice : Scope → List BlockType1 → BlockType1 → List Instr1 → List Instr1 → Instr1 → Type 0
 IsChoice s labels type first second i =
     (language (context_of s)).form (label_types labels) i ≡ where_true (is_block type first && is_short second) (Choice (block_results type) [] (block_results type) first second)
+
+-- the arms of an if may stand here over a condition, which is taken
+pub record Opens (type : BlockType1) (first second : List Instr1) (before after : Stack Ty1) : Type 0 where
+  pub arms : (is_block type first && is_short second) ≡ true
+  pub condition : fit same_type before.dead before.top (I32 ∷ []) ≡ true
+  pub taken : after ≡ record before { top = drop 1 before.top }
 
 -- the answer says whether the fact holds
 abbrev pub Decided : Bool → Type 0 → Type 0

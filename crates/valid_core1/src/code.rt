@@ -1,8 +1,10 @@
 // The typing of code.
 
-ghost use Rattle.std.specs.Prelude.{◌≡◌, true, IfOk};
+ghost use Rattle.std.specs.Prelude.{◌≡◌, true, false, List, IfOk};
+ghost use Rattle.core1_ast.specs.declared.module.ty.BlockType1.{BlockType1};
 ghost use Rattle.core1_ast.specs.declared.module.code.Instr1.{Instr1, out-Instr1};
-ghost use Rattle.valid_core1.specs.Checks.{HoldsNone, Judged, IsInside, IsBlock, IsChoice, Decided};
+ghost use Rattle.valid_core1.specs.Checks.{HoldsNone, Judged, IsInside, IsBlock, IsChoice, Opens, Decided};
+ghost use Rattle.valid_core1.specs.declared.scope.Scope.{Scope};
 ghost use Rattle.valid_core1.specs.Scopes.{AreSpaces};
 
 use crate::labels::{is_block, is_short};
@@ -47,41 +49,37 @@ fn check_block(
     ensures judged { IfOk result (λ typed. (i : Instr1) → IsBlock scope.now labels.old label ty code.now i → Judged scope.now labels.old i operands.old operands.new typed) }
     ensures labels { IfOk result (λ typed. typed ≡ true → labels.new ≡ labels.old) }
 {
-    if !is_block(ty, code) || !check_code(scope, labels, operands, label, ty, code)? {
+    if !is_block(ty, code) {
+        return Ok(false);
+    }
+    if !check_code(scope, labels, operands, label, ty, code)? {
         return Ok(false);
     }
     operands.push_all(results(ty))?;
     Ok(true)
 }
 
-/// Whether an if is typed over the operands, which it changes.
-#[cycle(typing)]
-fn check_choice(
-    scope: &Scope<'_>,
-    labels: &mut Items<BlockType1>,
+/// Whether an if may have these results and arms here, over a condition, which it takes.
+fn opens_choice(
     operands: &mut Operands<Ty1>,
     ty: BlockType1,
     first: &Code1,
     second: &Code1,
-) -> Result<bool, AllocError>
-    requires { AreSpaces scope.now.module.now scope.now.spaces.now }
-    ensures judged { IfOk result (λ typed. (i : Instr1) → IsChoice scope.now labels.old ty first.now second.now i → Judged scope.now labels.old i operands.old operands.new typed) }
-    ensures labels { IfOk result (λ typed. typed ≡ true → labels.new ≡ labels.old) }
+) -> bool
+    ensures opened { result ≡ true → Opens ty first.now second.now operands.old operands.new }
+    ensures refused { result ≡ false → (s : Scope) (labels : List BlockType1) (i : Instr1) → IsChoice s labels ty first.now second.now i → Judged s labels i operands.old operands.new false }
 {
-    let fits = is_block(ty, first)
-        && is_short(second.len())
-        && fits::<Types1>(operands, 0, &[Ty1::I32]);
-    if !fits {
-        return Ok(false);
+    if !is_block(ty, first) {
+        return false;
+    }
+    if !is_short(second.len()) {
+        return false;
+    }
+    if !fits::<Types1>(operands, 0, &[Ty1::I32]) {
+        return false;
     }
     operands.take(1);
-    if !check_code(scope, labels, operands, ty, ty, first)?
-        || !check_code(scope, labels, operands, ty, ty, second)?
-    {
-        return Ok(false);
-    }
-    operands.push_all(results(ty))?;
-    Ok(true)
+    true
 }
 
 /// Whether the instruction is typed over the operands, which it changes.
@@ -102,7 +100,17 @@ fn check_instr(
             check_block(scope, labels, operands, BlockType1::Empty, *ty, code)
         }
         Instr1::If(ty, first, second) => {
-            check_choice(scope, labels, operands, *ty, first, second)
+            if !opens_choice(operands, *ty, first, second) {
+                return Ok(false);
+            }
+            if !check_code(scope, labels, operands, *ty, *ty, first)? {
+                return Ok(false);
+            }
+            if !check_code(scope, labels, operands, *ty, *ty, second)? {
+                return Ok(false);
+            }
+            operands.push_all(results(*ty))?;
+            Ok(true)
         }
         _ => check_leaf(scope, labels.as_slice(), operands, instr),
     }

@@ -2,6 +2,7 @@ pub mod Trace
 pub mod Script
 pub mod Occurrence
 pub mod LateLanes
+pub mod Counts
 pub mod Features
 pub mod Spaces
 pub mod Places

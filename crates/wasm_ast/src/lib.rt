@@ -5,7 +5,7 @@ pub mod features;
 pub mod folding;
 pub mod kept;
 pub mod lists;
-mod marking;
+pub mod marking;
 pub mod module;
 pub mod occurrence;
 pub mod script;

@@ -112,14 +112,6 @@ module _ {X : Type 0} (f : Form X) (exact : Exact f) (b : List ℕ) where
   pub read_of_spelled : IsSpelled f b → IsRead f b
   read_of_spelled h = (h.0, reads_whole f exact b h.0 h.1)
 
-  -- a test whether the bytes are read tests whether they spell something
-  pub is_spelled : (test : Bool) → IsTrue test ↔ IsRead f b → IsTrue test ↔ IsSpelled f b
-  is_spelled test h = (λ t. spelled_of_read (h.0 t), λ s. h.1 (read_of_spelled s))
-
-  pub tests_spelled : {E : Type 0} (r : Result Bool E) → IfOk r (λ test. IsTrue test ↔ IsRead f b) → IfOk r (λ test. IsTrue test ↔ IsSpelled f b)
-  tests_spelled (Ok test) h = is_spelled test h
-  tests_spelled (Err e) h = tt
-
 -- what is read of a payload, where the payload spells something
 module _ {X : Type 0} (f : Form X) (exact : Exact f) (none : X) where
   -- a section's content is what its payload is read as

@@ -5,5 +5,3 @@ pub mod leb128;
 pub mod names;
 pub mod payloads;
 pub mod sections;
-#[cfg(test)]
-mod tests;

@@ -9,6 +9,9 @@ use std::alloc::{AllocError, Global};
 use thiserror::Error;
 use walking::walk;
 
+/// The magic bytes and the version, with which each file begins.
+pub static HEAD: [u8; 8] = *b"\0asm\x01\0\0\0";
+
 /// A version of WebAssembly, which decides what sections there are.
 #[derive(Clone, Copy, Debug, PartialEq, Eq)]
 pub enum Version {

@@ -17,8 +17,7 @@ use crate::reading::{
 use core1_ast::module::Module1;
 use num_core::lists::Bytes;
 use std::alloc::{AllocError, Global};
-
-static HEAD: [u8; 8] = *b"\0asm\x01\0\0\0";
+use wasm_frame::sections::HEAD;
 
 /// Bytes that spell a typed module of 1.0: the head, and a section for each kind of part that the module has. It fails
 /// for want of memory alone. A body, and a section with more than 2^32 - 1 bytes or entries, is want of memory too, since

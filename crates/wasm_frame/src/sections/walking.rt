@@ -3,13 +3,11 @@ ghost use Rattle.std.specs.Prelude.{◌≡◌, ℕ, List, ◌<◌, ◌++◌, len
 ghost use Rattle.grammar_kit.specs.Gives.{GivesOption};
 ghost use Rattle.wasm_frame.specs.Frame.{IsWithin, Tells, head, section, order, left_after};
 
-use super::{FrameFault, Section, Sections, Version};
+use super::{FrameFault, HEAD, Section, Sections, Version};
 use crate::leb128::split_u32;
 use grammar_kit::{read_byte, read_raw};
 use sqlite_items::Items;
 use std::alloc::Global;
-
-static HEAD: [u8; 8] = *b"\0asm\x01\0\0\0";
 
 static ORDER_ONE: [u8; 11] = [1, 2, 3, 4, 5, 6, 7, 8, 9, 10, 11];
 

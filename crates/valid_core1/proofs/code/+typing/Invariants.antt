@@ -12,5 +12,5 @@ abbrev pub invariant-check_code-loop-instr : goal.invariant-check_code-loop-inst
 invariant-check_code-loop-instr l = record {
   labels : l.labels ≡ l.initial.labels;
   outer : l.operands.outer ≡ l.initial.operands.outer;
-  typed : From (language (context_of l.scope)) (label_types l.labels) l.operands.dead l.operands.top (drop l.instr-index l.code) (known (block_results l.ty)) ↔ IsInside l.scope l.fn.labels l.label l.ty l.code;
+  typed : From (language (context_of l.scope)) (label_types l.labels) l.operands.dead l.operands.top (drop l.instr-index l.code) (known (block_results l.ty)) ↔ IsInside l.scope l.fn.labels l.fn.label l.ty l.code;
 }

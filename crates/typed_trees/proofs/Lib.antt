@@ -1,0 +1,5 @@
+pub mod Erasing
+pub mod LeafTyped
+pub mod Leaving
+pub mod Modules
+pub mod Refilled

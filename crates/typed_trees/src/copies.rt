@@ -1,0 +1,41 @@
+ghost use Rattle.std.specs.Prelude.{◌≡◌, IfOk};
+
+use crate::module::TypedFn;
+use crate::node::{Node, Nodes};
+use num_core::lists::TryCopy;
+use sqlite_items::Items;
+use std::alloc::{AllocError, Global};
+
+impl TryCopy for Node {
+    #[cycle(copies)]
+    fn copy(&self, alloc: Global) -> Result<Node, AllocError> {
+        Ok(Node {
+            head: self.head.copy(alloc)?,
+            takes: self.takes.copy(alloc)?,
+            gives: self.gives.copy(alloc)?,
+            first: copy_of(&self.first, alloc)?,
+            second: copy_of(&self.second, alloc)?,
+        })
+    }
+}
+
+/// The nodes again, one by one.
+#[cycle(copies)]
+fn copy_of(nodes: &Nodes, alloc: Global) -> Result<Nodes, AllocError>
+    ensures { IfOk result (λ copy. copy ≡ nodes.now) }
+{
+    let mut copy = Items::new(alloc);
+    for node in nodes.as_slice() {
+        copy.push(node.copy(alloc)?)?;
+    }
+    Ok(copy)
+}
+
+impl TryCopy for TypedFn {
+    fn copy(&self, alloc: Global) -> Result<TypedFn, AllocError> {
+        Ok(TypedFn {
+            locals: self.locals.copy(alloc)?,
+            body: copy_of(&self.body, alloc)?,
+        })
+    }
+}

@@ -1,0 +1,18 @@
+-- What a search through the parts of a section finds.
+use Rattle.std.specs.Prelude.{◌≡◌, ℕ, ◌<◌, List, map, Option, Some, None, IfSome, slice_get}
+use Rattle.core1_ast.specs.declared.module.ty.Ty1.{Ty1}
+use Rattle.core1_ast.specs.declared.module.ty.Ty1.TheVariants as types
+use Rattle.core1_ast.specs.declared.module.op.Op1.{Op1}
+use Rattle.core1_ast.specs.declared.module.op.Op1.TheVariants as ops
+use Rattle.core1_ast.specs.declared.module.code.Instr1.{Instr1}
+use Rattle.core1_ast.specs.declared.module.code.Instr1.TheOpen.{Instr1-F}
+use Rattle.core1_ast.specs.Spaces.{GlobalType}
+
+-- the first place, among so many, at which the fact does not hold
+abbrev pub Finds : (ℕ → Type 0) → ℕ → Option ℕ → Type 0
+Finds P n None = (k : ℕ) → k < n → P k
+Finds P n (Some place) = (place < n) × ((k : ℕ) → k < place → P k) × (P place → ⊥)
+
+-- the fact of the item at a place
+abbrev pub At : {X : Type 0} → List X → (ℕ → X → Type 0) → ℕ → Type 0
+At xs P k = IfSome (slice_get xs k) (P k)

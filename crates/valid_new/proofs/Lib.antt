@@ -1,0 +1,10 @@
+pub mod Alignments
+pub mod Holding
+pub mod Labels
+pub mod Matching
+pub mod Moving
+pub mod Planned
+pub mod Putting
+pub mod Reaching
+pub mod Through
+pub mod Tops

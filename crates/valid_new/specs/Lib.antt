@@ -1,0 +1,5 @@
+pub mod Groups
+pub mod Bodies
+pub mod Nested
+pub mod Nodes
+pub mod Scopes
