@@ -19,13 +19,15 @@ use Rattle.read_new.proofs.Owed.{three_laws}
 use Rattle.core1_bytes.specs.Made as old
 use Rattle.core1_bytes.specs.Spells.{one}
 use Rattle.core1_bytes.proofs.Payloads as old_payloads
+use Rattle.valid_core1.proofs.Unique as typing_laws
 use Rattle.valid_core1.specs.Verdict as typing
 use Rattle.valid_core1.specs.declared.invalid.Invalid.{Invalid}
 use Rattle.valid_core1.specs.declared.invalid.Invalid.TheVariants as invalid
 use Rattle.lower_tool.specs.CoreFiles.{SpellsCore}
 use Rattle.lower_tool.specs.Lowering.{IsCoreFile}
 use Rattle.lower_tool.specs.Stops.{IfNotFine, of_reading, of_typing}
-use Rattle.lower_tool.specs.Verdict.{file_limit, IsFine3, Refuses3, IsFine1, RefusesModule, Refuses1, IsFine, Refuses, text_of, IsRefusal}
+use Rattle.module_reading.specs.Limits.{file_limit}
+use Rattle.lower_tool.specs.Verdict.{IsFine3, Refuses3, IsFine1, RefusesModule, Refuses1, IsFine, Refuses, text_of, IsRefusal}
 use Rattle.lower_tool.specs.Words.{Command, lower, check1}
 use Rattle.lower_tool.specs.declared.verdict.NotFine.{NotFine}
 use Rattle.lower_tool.specs.declared.verdict.NotFine.TheVariants as verdict
@@ -39,9 +41,6 @@ one_answer3 = shared.one_answer three new.means three_laws
 
 one_answer1 : (b : List ℕ) (r s : Result Module1 ReadFault) → Reads one b r → Reads one b s → r ≡ s
 one_answer1 = shared.one_answer one old.means old_payloads.laws
-
-one_typing : (m : Module1) (r s : Result Module1 Invalid) → typing.Settles m r → typing.Settles m s → r ≡ s
-one_typing m r s h k = ?
 
 -- a fault of reading is a step of the verdict, unless it is want of memory
 pub unread3 : (b : List ℕ) (f : ReadFault) → length b ≤ file_limit → Tells three b (Err f) → IfNotFine (of_reading f) (λ refusal. Refuses3 refusal b)
@@ -178,7 +177,7 @@ one_found b (typed_as r) (fault_of g) h k = absurd (cc (one_answer1 b (Err g) (O
 one_found b (typed_as r) float h k = absurd (not_both b k.0 h.0 k.1 h.1 k.2 h.2)
 one_found b (typed_as r) (typed_as s) h k =
     let there = subst (λ n. typing.Settles n s) (sym (same_module b h.0 k.0 h.1 k.1)) k.3 in
-    ap typed_as (one_typing h.0 r s h.3 there)
+    ap typed_as (typing_laws.one_answer h.0 r s h.3 there)
 
 -- the refusal by it
 abbrev refusal_of : Found → Option Refusal

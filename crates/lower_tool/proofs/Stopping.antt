@@ -4,7 +4,8 @@ use Rattle.std.specs.Prelude.{◌⊎◌, Option, Some, None, IsSomeAnd}
 use Rattle.tool_files.specs.Held.{Contents, Told, WhereTold}
 use Rattle.tool_files.proofs.HeldLemmas.{where_told}
 use Rattle.lower_tool.specs.Stops.{IfRefused, IfNotFine, stop_of, status_of}
-use Rattle.lower_tool.specs.Verdict.{file_limit, IsFine, Refuses, text_of, IsRefusal}
+use Rattle.module_reading.specs.Limits.{file_limit}
+use Rattle.lower_tool.specs.Verdict.{IsFine, Refuses, text_of, IsRefusal}
 use Rattle.lower_tool.specs.Words.{Command}
 use Rattle.lower_tool.specs.declared.tool.stop.Stop.{Stop}
 use Rattle.lower_tool.specs.declared.tool.stop.Stop.TheVariants.{Refused, CannotRead, OutOfMemory}

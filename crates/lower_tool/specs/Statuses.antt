@@ -4,7 +4,8 @@ use Rattle.std.specs.Io.KnownBytes.{Appends, Consumes}
 use Rattle.tool_files.specs.Causes.{Rose}
 use Rattle.tool_files.specs.Held.{Contents, Sets, WhereTold}
 use Rattle.lower_tool.specs.Lowering.{Lowers, default_captures}
-use Rattle.lower_tool.specs.Verdict.{file_limit, IsFine3}
+use Rattle.module_reading.specs.Limits.{file_limit}
+use Rattle.lower_tool.specs.Verdict.{IsFine3}
 
 -- a text and the line feed that ends it
 abbrev pub line : List ℕ → List ℕ

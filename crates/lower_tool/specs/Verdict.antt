@@ -7,6 +7,7 @@ use Rattle.core1_ast.specs.Floats.{has_floats}
 use Rattle.core1_ast.specs.Typing.{Typed1}
 use Rattle.core1_ast.specs.declared.module.parts.Module1.{Module1}
 use Rattle.module_reading.specs.Texts as reading
+use Rattle.module_reading.specs.Limits.{file_limit}
 use Rattle.module_reading.specs.Reads.{Reads}
 use Rattle.read_new.specs.Spells.{three}
 use Rattle.core1_bytes.specs.Spells.{one}
@@ -16,10 +17,6 @@ use Rattle.lower_tool.specs.declared.verdict.Refusal.{Refusal}
 use Rattle.lower_tool.specs.declared.verdict.Refusal.TheVariants.{TooLarge, Unreadable, Floats, NotBuiltCore, Part, Body}
 use Rattle.lower_tool.specs.Lowering.{IsCoreFile}
 use Rattle.lower_tool.specs.Words.{Command, lower, check1}
-
--- the most bytes that a file may have
-abbrev pub file_limit : ℕ
-file_limit = 67108864
 
 -- ---- a file of 3.0 that is to be lowered
 

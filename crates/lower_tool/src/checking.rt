@@ -4,7 +4,8 @@ ghost use Rattle.std.specs.Prelude.{◌≡◌, ◌≤◌, length, false, IfErr, 
 ghost use Rattle.core1_ast.specs.Floats.{has_floats};
 ghost use Rattle.core1_ast.specs.Typing.{Typed1};
 ghost use Rattle.lower_tool.specs.Stops.{IfNotFine};
-ghost use Rattle.lower_tool.specs.Verdict.{file_limit, IsFine1, Refuses1, RefusesModule};
+ghost use Rattle.module_reading.specs.Limits.{file_limit};
+ghost use Rattle.lower_tool.specs.Verdict.{IsFine1, Refuses1, RefusesModule};
 
 use crate::verdict::{NotFine, Refusal};
 use core1_ast::floats::has_floats;

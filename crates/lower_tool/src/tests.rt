@@ -268,8 +268,16 @@ fn files_of_1_0(rt: HostRuntime) -> Result<(), Fail> {
             1,
             "refused: section 0\n",
         ),
-        (b"\x01\x05\x01\x60\x01\x7D\x00", 1, "refused: outside: floats\n"),
-        (b"\x05\x04\x01\x01\x02\x01", 1, "refused: invalid: part 5 0\n"),
+        (
+            b"\x01\x05\x01\x60\x01\x7D\x00",
+            1,
+            "refused: outside: floats\n",
+        ),
+        (
+            b"\x05\x04\x01\x01\x02\x01",
+            1,
+            "refused: invalid: part 5 0\n",
+        ),
         (
             b"\x01\x05\x01\x60\x00\x01\x7F\x03\x02\x01\x00\x0A\x04\x01\x02\x00\x0B",
             1,

@@ -4,16 +4,14 @@ ghost use Rattle.tool_files.specs.Causes.{Rose};
 ghost use Rattle.tool_files.specs.Held.{WhereTold};
 ghost use Rattle.lower_tool.specs.Statuses.{TakesWithinLimit};
 ghost use Rattle.lower_tool.specs.Stops.{IfRefused};
-ghost use Rattle.lower_tool.specs.Verdict.{file_limit};
+ghost use Rattle.module_reading.specs.Limits.{file_limit};
 
 use super::stop::Stop;
 use crate::files::Files;
 use crate::verdict::Refusal;
+use module_reading::FILE_LIMIT;
 use num_core::lists::Bytes;
 use std::alloc::Global;
-
-/// The most bytes that a file may have.
-pub const FILE_LIMIT: usize = 67_108_864;
 
 /// How many bytes are asked of a file at once.
 const PIECE: usize = 4096;

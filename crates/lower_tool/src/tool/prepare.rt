@@ -5,7 +5,8 @@ ghost use Rattle.lower_tool.specs.Commands.{command_of};
 ghost use Rattle.lower_tool.specs.Products.{IsFor, Makes};
 ghost use Rattle.lower_tool.specs.Statuses.{TakesWithinLimit};
 ghost use Rattle.lower_tool.specs.Stops.{IfRefused, IfNotFine};
-ghost use Rattle.lower_tool.specs.Verdict.{file_limit, Refuses};
+ghost use Rattle.module_reading.specs.Limits.{file_limit};
+ghost use Rattle.lower_tool.specs.Verdict.{Refuses};
 ghost use Rattle.lower_tool.specs.Words.{input_of};
 
 use super::command::Command;

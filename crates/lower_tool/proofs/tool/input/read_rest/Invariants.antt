@@ -1,6 +1,6 @@
 use Rattle.std.proofs.Common.{length, ◌-◌, ◌+◌, ◌≡◌, ℕ, ◌≤◌, List, IsTrue}
 use Rattle.std.specs.Io.KnownBytes.{Consumes}
-use Rattle.lower_tool.specs.Verdict.{file_limit}
+use Rattle.module_reading.specs.Limits.{file_limit}
 use Rattle.lower_tool.proofs.tool.input.read_rest.Given as goal
 
 -- the bytes so far are what was taken, and nothing but reading went on
