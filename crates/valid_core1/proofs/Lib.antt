@@ -5,3 +5,5 @@ pub mod Constants
 pub mod Deciding
 pub mod Names
 pub mod Shortness
+pub mod Order
+pub mod Inside

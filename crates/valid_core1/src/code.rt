@@ -119,7 +119,7 @@ fn check_instr(
 /// Whether the code is typed under a label of its own, over no operands, with these results. Where it is, the labels and
 /// the operands are as before.
 #[cycle(typing)]
-fn check_code(
+pub fn check_code(
     scope: &Scope<'_>,
     labels: &mut Items<BlockType1>,
     operands: &mut Operands<Ty1>,

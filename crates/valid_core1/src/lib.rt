@@ -2,6 +2,7 @@
 #![tactic(auto)]
 
 mod accesses;
+mod bodies;
 mod code;
 mod invalid;
 mod labels;
@@ -13,6 +14,7 @@ mod short;
 mod spaces;
 mod typed;
 mod types;
+mod validate;
 
 pub use invalid::Invalid;
 pub use parts::{FuncTest, ImportTest, LimitsTest, TypeTest, GlobalTest, ElementTest, SegmentTest, first_export, start_is_typed};
