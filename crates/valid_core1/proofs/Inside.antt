@@ -1,17 +1,15 @@
 -- A body is typed exactly where its locals are and its code is under the results of its function.
-use Rattle.std.proofs.Common.{◌≡◌, Bool, true, false, List, [], ◌∷◌, ◌++◌, Some, IfOk, Result, Ok, Err, refl, ap, sym, subst, ◌∙◌, ◌↔◌}
-use Rattle.std.specs.List.{AllByRecursion, list_all}
+use Rattle.std.proofs.Common.{◌≡◌, Bool, true, false, List, [], ◌∷◌, ◌++◌, Some, ap, sym, subst, ◌∙◌}
+use Rattle.std.specs.List.{list_all}
 use Rattle.core1_ast.specs.declared.module.ty.Ty1.{Ty1}
 use Rattle.core1_ast.specs.declared.module.ty.BlockType1.{BlockType1}
 use Rattle.core1_ast.specs.declared.module.ty.FuncType1.{FuncType1}
-use Rattle.core1_ast.specs.declared.module.code.Instr1.{Instr1}
 use Rattle.core1_ast.specs.declared.module.code.Body1.{Body1}
 use Rattle.core1_ast.specs.declared.module.parts.Module1.{Module1}
 use Rattle.core1_ast.specs.Operands.{block_results}
 use Rattle.core1_ast.specs.Spaces.{func_indices, all_tables, all_memories, all_globals}
 use Rattle.core1_ast.specs.Code.{Context}
 use Rattle.core1_ast.specs.Typing.{TypedBody, body_context}
-use Rattle.core1_ast.specs.Code as code
 use Rattle.typing_kit.specs.Matching.{known}
 use Rattle.typing_kit.specs.Typing.{TypedCode}
 use Rattle.valid_core1.specs.declared.scope.Scope.{Scope}

@@ -7,3 +7,6 @@ pub mod Names
 pub mod Shortness
 pub mod Order
 pub mod Inside
+pub mod Firsts
+pub mod Whole
+pub mod Unique

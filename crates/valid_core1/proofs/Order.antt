@@ -1,12 +1,12 @@
 -- The order of the parts, and the answers of a search through them.
-use Rattle.std.proofs.Common.{◌≡◌, ℕ, ◌<◌, ◌≤◌, Bool, true, false, Option, Some, None, Result, Ok, Err, refl, ap, sym, subst, ◌∙◌, arith}
+use Rattle.std.proofs.Common.{◌≡◌, ℕ, ◌<◌, Option, Some, None, Err, refl, sym, subst, arith}
 use Rattle.core1_ast.specs.declared.module.parts.Module1.{Module1}
 use Rattle.core1_ast.specs.Typing.{TypedStart}
 use Rattle.valid_core1.specs.declared.invalid.Invalid.{Invalid}
 use Rattle.valid_core1.specs.declared.invalid.Invalid.TheVariants.{Part}
 use Rattle.valid_core1.specs.Sections.{Finds}
 use Rattle.valid_core1.specs.Parts.{Section, Types, Imports, Functions, Tables, Memories, Globals, Exports, Start, Elements, Segments, id, count, PartTyped}
-use Rattle.valid_core1.specs.Verdict.{SectionTyped, FirstPart, TellsOfParts}
+use Rattle.valid_core1.specs.Verdict.{SectionTyped, TellsOfParts}
 
 module _ (m : Module1) where
   -- the part is the first that is not typed, where those of the sections before it are

@@ -38,6 +38,11 @@ TellsOfParts m (Err (Part section place)) = (s : Section) × (section ≡ id s) 
 TellsOfParts m (Err (Body place)) = ⊥
 TellsOfParts m (Err (Memory e)) = Unit {0}
 
+-- what the answer of a search through parts and bodies says
+abbrev pub TellsOfAll : Module1 → Result (Unit {0}) Invalid → Type 0
+TellsOfAll m (Ok done) = Typed1 m
+TellsOfAll m (Err fault) = Tells m (Err fault)
+
 -- what `Tells` says, of an answer that is no want of memory
 abbrev pub Settles : Module1 → Result Module1 Invalid → Type 0
 Settles m (Err (Memory e)) = ⊥

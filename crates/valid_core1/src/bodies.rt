@@ -60,11 +60,7 @@ fn check_body(
 }
 
 /// The first body that is not typed.
-pub fn first_body(
-    alloc: Global,
-    m: &Module1,
-    spaces: &Spaces,
-) -> Result<Option<usize>, AllocError>
+pub fn first_body(alloc: Global, m: &Module1, spaces: &Spaces) -> Result<Option<usize>, AllocError>
     requires spaces { AreSpaces m.now spaces.now }
     requires counts { length m.now.funcs ≡ length m.now.codes }
     requires types { SectionTyped m.now Types }

@@ -60,12 +60,7 @@ fn check_block(
 }
 
 /// Whether an if may have these results and arms here, over a condition, which it takes.
-fn opens_choice(
-    operands: &mut Operands<Ty1>,
-    ty: BlockType1,
-    first: &Code1,
-    second: &Code1,
-) -> bool
+fn opens_choice(operands: &mut Operands<Ty1>, ty: BlockType1, first: &Code1, second: &Code1) -> bool
     ensures opened { result ≡ true → Opens ty first.now second.now operands.old operands.new }
     ensures refused { result ≡ false → (s : Scope) (labels : List BlockType1) (i : Instr1) → IsChoice s labels ty first.now second.now i → Judged s labels i operands.old operands.new false }
 {

@@ -10,8 +10,9 @@ ghost use Rattle.valid_core1.specs.Checks.{Decided};
 ghost use Rattle.valid_core1.specs.Scopes.{AreSpaces};
 ghost use Rattle.valid_core1.specs.Sections.{Finds};
 ghost use Rattle.valid_core1.specs.Parts.{Section, Types, Imports, Functions, Tables, Memories, Globals, Elements, Segments, count, PartTyped, BodyTyped};
-ghost use Rattle.valid_core1.specs.Verdict.{Tells, Settles, Agrees, TellsOfParts};
+ghost use Rattle.valid_core1.specs.Verdict.{Tells, Settles, Agrees, TellsOfParts, TellsOfAll};
 
+use crate::bodies::first_body;
 use crate::invalid::Invalid;
 use crate::parts::{
     ElementTest, FuncTest, GlobalTest, ImportTest, LimitsTest, MEMORY_BOUND, SegmentTest,
@@ -147,4 +148,37 @@ fn check_parts(alloc: Global, m: &Module1, spaces: &Spaces) -> Result<(), Invali
         return Err(part(11, place));
     }
     Ok(())
+}
+
+/// The verdict, step by step.
+fn check_module(alloc: Global, m: &Module1) -> Result<(), Invalid>
+    requires { length m.now.funcs ≡ length m.now.codes }
+    ensures { TellsOfAll m.now result }
+{
+    if !is_short_module(m) {
+        return Err(Invalid::Memory(AllocError));
+    }
+    let spaces = spaces_of(alloc, m)?;
+    check_parts(alloc, m, &spaces)?;
+    match first_body(alloc, m, &spaces)? {
+        Some(place) => Err(Invalid::Body(place as u32)),
+        None => Ok(()),
+    }
+}
+
+/// Whether a module is typed as 1.0. Its parts are tested in the order of their sections and places, and then its bodies;
+/// the answer names the first that is not typed. The time is linear in the size of the module, and the recursion goes as
+/// deep as its blocks nest.
+pub fn validate1<'a>(alloc: Global, m: &'a Module1) -> Result<Typed1<'a>, Invalid>
+    // There are as many functions as bodies.
+    requires { length m.now.funcs ≡ length m.now.codes }
+    // What the answer says of the module.
+    ensures tells { Tells m.now result }
+    // No other answer is right, want of memory aside.
+    ensures only { (other : Result Module1 Invalid) → Settles m.now other → Agrees result other }
+{
+    match check_module(alloc, m) {
+        Ok(()) => Ok(Typed1::new(m)),
+        Err(fault) => Err(fault),
+    }
 }

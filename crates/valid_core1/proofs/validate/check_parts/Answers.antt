@@ -6,7 +6,7 @@ use Rattle.valid_core1.proofs.validate.check_parts.Goals as goal
 pub returns-in-Some : goal.returns-in-Some
 returns-in-Some c =
     let m = c.args.m.now in
-    refused m Types c.in-Some.place c.part.result c.part.ensures (before_type m ) c.in-Some.ensures
+    refused m Types c.in-Some.place c.part.result c.part.ensures (before_type m) c.in-Some.ensures
 
 pub returns-in-Some-first_import : goal.returns-in-Some-first_import
 returns-in-Some-first_import c =
