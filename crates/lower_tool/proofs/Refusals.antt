@@ -42,38 +42,6 @@ one_answer3 = shared.one_answer three new.means three_laws
 one_answer1 : (b : List ℕ) (r s : Result Module1 ReadFault) → Reads one b r → Reads one b s → r ≡ s
 one_answer1 = shared.one_answer one old.means old_payloads.laws
 
--- a fault of reading is a step of the verdict, unless it is want of memory
-pub unread3 : (b : List ℕ) (f : ReadFault) → length b ≤ file_limit → Tells three b (Err f) → IfNotFine (of_reading f) (λ refusal. Refuses3 refusal b)
-unread3 b (fault.Frame e) within h = (within, h)
-unread3 b (fault.Section i) within h = (within, h)
-unread3 b (fault.Body i) within h = (within, h)
-unread3 b fault.Counts within h = (within, h)
-unread3 b (fault.Limit kind) within h = (within, h)
-unread3 b (fault.Memory e) within h = tt
-
-pub unread1 : (b : List ℕ) (f : ReadFault) → length b ≤ file_limit → Tells one b (Err f) → IfNotFine (of_reading f) (λ refusal. Refuses1 refusal b)
-unread1 b (fault.Frame e) within h = (within, h)
-unread1 b (fault.Section i) within h = (within, h)
-unread1 b (fault.Body i) within h = (within, h)
-unread1 b fault.Counts within h = (within, h)
-unread1 b (fault.Limit kind) within h = (within, h)
-unread1 b (fault.Memory e) within h = tt
-
--- so is a fault of the frame
-pub unopened : (b : List ℕ) (f : ReadFault) → length b ≤ file_limit → Opens Three b (Err f) → IfNotFine (of_reading f) (λ refusal. Refuses3 refusal b)
-unopened b (fault.Frame e) within h = (within, h)
-unopened b (fault.Section i) within h = absurd h
-unopened b (fault.Body i) within h = absurd h
-unopened b fault.Counts within h = absurd h
-unopened b (fault.Limit kind) within h = absurd h
-unopened b (fault.Memory e) within h = tt
-
--- a fault of typing is one, of a module without floats
-pub untyped : (m : Module1) (e : Invalid) → has_floats m ≡ false → typing.Tells m (Err e) → IfNotFine (of_typing e) (λ refusal. RefusesModule refusal m)
-untyped m (invalid.Part section place) none h = (none, h)
-untyped m (invalid.Body place) none h = (none, h)
-untyped m (invalid.Memory e) none h = tt
-
 -- what refuses the module refuses the file that spells it
 pub of_module : (b : List ℕ) (m : Module1) (e : NotFine) → length b ≤ file_limit → Reads one b (Ok m) → IfNotFine e (λ refusal. RefusesModule refusal m) → IfNotFine e (λ refusal. Refuses1 refusal b)
 of_module b m (verdict.Refused TooLarge) within reads h = absurd h

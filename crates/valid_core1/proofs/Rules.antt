@@ -9,7 +9,8 @@ use Rattle.core1_ast.specs.declared.module.ty.BlockType1.{BlockType1}
 use Rattle.core1_ast.specs.declared.module.code.Instr1.{Instr1, out-Instr1, roll-Instr1}
 use Rattle.core1_ast.specs.declared.module.code.Instr1.TheOpen.{Instr1-F}
 use Rattle.core1_ast.specs.declared.module.code.Instr1.TheViews as views
-use Rattle.core1_ast.specs.Operands.{op_takes, op_gives, load_type, load_bytes, store_type, store_bytes, block_results}
+use Rattle.num_core.specs.Accesses.{load_bytes, store_bytes}
+use Rattle.core1_ast.specs.Operands.{op_takes, op_gives, load_type, store_type, block_results}
 use Rattle.core1_ast.specs.Lengths.{IsShort}
 use Rattle.core1_ast.specs.Code as code
 use Rattle.core1_ast.specs.Code.{Context, Typed, TypedCode, TypedTy, labelled, func_type}

@@ -8,7 +8,8 @@ use Rattle.core1_ast.specs.declared.module.ty.BlockType1.{BlockType1}
 use Rattle.core1_ast.specs.declared.module.immediates.MemArg1.{MemArg1}
 use Rattle.core1_ast.specs.declared.module.code.Instr1.{Instr1, out-Instr1}
 use Rattle.core1_ast.specs.declared.module.code.Instr1.TheOpen.{Instr1-F}
-use Rattle.core1_ast.specs.Operands.{op_takes, op_gives, load_type, load_bytes, store_type, store_bytes, block_results}
+use Rattle.num_core.specs.Accesses.{load_bytes, store_bytes}
+use Rattle.core1_ast.specs.Operands.{op_takes, op_gives, load_type, store_type, block_results}
 use Rattle.core1_ast.specs.Code.{Context, func_type}
 use Rattle.typing_kit.specs.declared.kind.Kind.{Kind}
 use Rattle.typing_kit.specs.declared.kind.Kind.TheVariants as kinds

@@ -2,7 +2,8 @@
 
 ghost use Rattle.std.specs.Prelude.{◌≡◌, ◌^◌, [], ◌∷◌, nat_le};
 ghost use Rattle.core1_ast.specs.declared.module.ty.Ty1.TheVariants.{I32};
-ghost use Rattle.core1_ast.specs.Operands.{load_type, load_bytes, store_type, store_bytes};
+ghost use Rattle.num_core.specs.Accesses.{load_bytes, store_bytes};
+ghost use Rattle.core1_ast.specs.Operands.{load_type, store_type};
 
 use core1_ast::module::{MemArg1, Ty1};
 use num_core::operators::{Load, Store};
