@@ -7,6 +7,8 @@ ghost use Rattle.core1_ast.specs.declared.module.parts.Module1.{Module1};
 ghost use Rattle.core1_ast.specs.Code.{Context, TypedCode};
 ghost use Rattle.core1_ast.specs.Typing.{Typed1 as IsTyped};
 ghost use Rattle.typing_kit.specs.Matching.{known};
+ghost use Rattle.typing_kit.specs.declared.operand.Operand.{Operand};
+ghost use Rattle.typing_kit.specs.Standard.{StandardCode};
 ghost use Rattle.typing_kit.specs.Typing.{TypedCode as KitTypedCode};
 ghost use Rattle.valid_core1.specs.declared.invalid.Invalid.{Invalid};
 ghost use Rattle.valid_core1.specs.Forms.{language};
@@ -21,4 +23,10 @@ pub fn one_answer()
 /// of type bot stand for what code that cannot be reached takes from nowhere.
 pub fn same_rules()
     ensures { (c : Context) (body : List Instr1) (stack after : List Ty1) → KitTypedCode (language c) c.labels body (known stack) (known after) ↔ TypedCode c body stack after }
+{}
+
+/// The rules over forms type the same code as the standard's rules in their own shape: code is empty, one instruction or
+/// a sequence, over a frame of operands that it leaves as they are, and up to subsumption.
+pub fn standard_shape()
+    ensures { (c : Context) (ls : List (List Ty1)) (body : List Instr1) (stack after : List (Operand Ty1)) → KitTypedCode (language c) ls body stack after ↔ StandardCode (language c) ls body stack after }
 {}
