@@ -1,4 +1,5 @@
 pub mod Alignments
+pub mod AnnotatedBodies
 pub mod Holding
 pub mod Labels
 pub mod Marks

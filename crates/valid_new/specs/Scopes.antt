@@ -1,7 +1,8 @@
 -- The context that index spaces and a scope stand for.
-use Rattle.std.specs.Prelude.{List, [], ◌++◌, map, reverse, Option, None, option_map}
+use Rattle.std.specs.Prelude.{List, [], ◌++◌, map, reverse, Option, Some, None, option_map}
 use Rattle.std.specs.Borrow.{Bor}
 use Rattle.wasm_ast.specs.declared.module.ty.Ty.{Ty}
+use Rattle.wasm_ast.specs.declared.module.ty.FuncType.{FuncType}
 use Rattle.typed_trees.specs.Contexts.{Context}
 use Rattle.valid_new.specs.declared.scope.Spaces.{Spaces}
 use Rattle.valid_new.specs.declared.scope.Scope.{Scope}
@@ -26,6 +27,10 @@ spaces_context s = record {
 abbrev pub context_of : Scope → Context
 context_of s =
     record (spaces_context s.spaces.now) { locals = s.params.now ++ s.locals.now; returns = option_map (λ ts. ts.now) s.returns }
+
+-- the context inside a function of the type, with these declared locals
+abbrev pub inside : Context → FuncType → List Ty → Context
+inside c t locals = record c { locals = t.params ++ locals; returns = Some t.results }
 
 -- what branches to labels take, of which the innermost is the last
 abbrev pub labels_of : List (Bor (List Ty)) → List (List Ty)

@@ -1,13 +1,14 @@
 // The bodies of a module, typed.
 
-ghost use Rattle.std.specs.Prelude.{◌≡◌, ◌<◌, length, true, IfOk};
+ghost use Rattle.std.specs.Prelude.{◌≡◌, ◌<◌, [], ◌∷◌, length, IfOk};
 ghost use Rattle.std.specs.List.{list_all};
 ghost use Rattle.wasm_ast.specs.declared.module.parts.Module.{Module};
 ghost use Rattle.wasm_ast.specs.Counts.{Agrees};
 ghost use Rattle.typed_trees.specs.Contexts.{is_value_type};
 ghost use Rattle.typed_trees.specs.Modules.{context, TypedParts};
 ghost use Rattle.valid_new.specs.Annotated.{AnnotatedOr, FoundOr, Tells};
-ghost use Rattle.valid_new.specs.Scopes.{spaces_context};
+ghost use Rattle.valid_new.specs.Bodies.{BodyOr};
+ghost use Rattle.valid_new.specs.Scopes.{inside, spaces_context};
 ghost use Rattle.valid_new.specs.declared.annotating.Fault.TheVariants.{Memory};
 
 use crate::body::type_code;
@@ -17,9 +18,9 @@ use crate::types::is_value_type;
 use num_core::lists::TryCopy;
 use std::alloc::{AllocError, Global};
 use thiserror::Error;
-use typed_trees::TypedFn;
+use typed_trees::{Nodes, TypedFn};
 use typing_kit::Operands;
-use wasm_ast::module::{Body, FuncType, Module, Ty};
+use wasm_ast::module::{Body, FuncType, Instr, Module, Ty};
 
 /// Why a body was not annotated.
 #[derive(Debug, Drop, Error)]
@@ -85,10 +86,38 @@ pub fn annotate_body(
 ) -> Result<Option<TypedFn>, AllocError>
     ensures { (m : Module) → spaces_context spaces.now ≡ context m → IfOk result (AnnotatedOr m ty.now body.now) }
 {
-    let locals = body.locals.as_slice();
-    if !are_value_types(locals) {
+    if !are_value_types(body.locals.as_slice()) {
         return Ok(None);
     }
+    let found = annotate_code(
+        alloc,
+        spaces,
+        ty,
+        body.locals.as_slice(),
+        body.code.as_slice(),
+    )?;
+    match found {
+        Some(nodes) => {
+            let locals = body.locals.copy(alloc)?;
+            Ok(Some(TypedFn {
+                locals,
+                body: nodes,
+            }))
+        }
+        None => Ok(None),
+    }
+}
+
+/// The code of a function of this type with these declared locals.
+fn annotate_code(
+    alloc: Global,
+    spaces: &Spaces<'_>,
+    ty: &FuncType,
+    locals: &[Ty],
+    code: &[Instr],
+) -> Result<Option<Nodes>, AllocError>
+    ensures { IfOk result (BodyOr (inside (spaces_context spaces.now) ty.now locals.now) (ty.now.results ∷ []) code.now [] ty.now.results) }
+{
     let results = ty.results.as_slice();
     let scope = Scope {
         spaces,
@@ -99,14 +128,7 @@ pub fn annotate_body(
     let mut labels = Vec::new(alloc);
     labels.push(results)?;
     let mut operands = Operands::new(alloc);
-    let code = body.code.as_slice();
-    match type_code(alloc, scope, &mut labels, &mut operands, &[], results, code)? {
-        Some(nodes) => Ok(Some(TypedFn {
-            locals: body.locals.copy(alloc)?,
-            body: nodes,
-        })),
-        None => Ok(None),
-    }
+    type_code(alloc, scope, &mut labels, &mut operands, &[], results, code)
 }
 
 /// Whether each is the type of values.
