@@ -9,3 +9,4 @@ pub mod Open
 pub mod Leaving
 pub mod Stepping
 pub mod Values
+pub mod Shapes

@@ -6,3 +6,4 @@ pub mod Stack
 pub mod Steps
 pub mod Bottomless
 pub mod Progress
+pub mod Standard

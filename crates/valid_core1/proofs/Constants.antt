@@ -1,5 +1,5 @@
 -- Constant expressions: one value is left by one constant.
-use Rattle.std.proofs.Common.{◌≡◌, ◌≢◌, ℕ, ◌+◌, ◌≤◌, ◌<◌, Bool, true, false, cond, List, [], ◌∷◌, ◌++◌, length, Option, Some, None, slice_get, refl, ap, sym, subst, ◌∙◌, arith, length-append}
+use Rattle.std.proofs.Common.{◌≡◌, ℕ, ◌+◌, Bool, true, false, cond, List, [], ◌∷◌, ◌++◌, length, Option, Some, None, slice_get, refl, ap, sym, subst, ◌∙◌, arith, length-append}
 use Rattle.std.specs.List.{AllByRecursion}
 use Rattle.core1_ast.specs.declared.module.ty.Ty1.{Ty1}
 use Rattle.core1_ast.specs.declared.module.ty.Ty1.TheVariants as types
@@ -13,10 +13,10 @@ use Rattle.core1_ast.specs.Spaces.{GlobalType}
 use Rattle.core1_ast.specs.Code as code
 use Rattle.core1_ast.specs.Code.{Context, Typed, TypedCode}
 use Rattle.core1_ast.specs.Typing.{IsConstant, TypedConstant, i32_const, i64_const, fixed_global}
-use Rattle.typing_kit.specs.Form.{Form, Flat}
+use Rattle.typing_kit.specs.Form.{Flat}
 use Rattle.typing_kit.specs.Bottomless.{ValuesTyped}
 use Rattle.typing_kit.specs.Bottomless as values
-use Rattle.valid_core1.specs.Forms.{same_type, language, found}
+use Rattle.valid_core1.specs.Forms.{same_type, language}
 use Rattle.valid_core1.specs.Constants.{const_type, fixed_type, constant_type, has_type, is_constant}
 use Rattle.valid_core1.proofs.Rules.{same_type_refl, same_type_is, laid, found_is, to_forms, rolled}
 

@@ -1,5 +1,5 @@
 -- What the tests of parts decide.
-use Rattle.std.proofs.Common.{◌≡◌, ℕ, zero, suc, ◌+◌, ◌≤◌, ◌<◌, Bool, true, false, ◌&&◌, nat_le, nat_lt, List, [], ◌∷◌, ◌++◌, length, map, Option, Some, None, slice_get, refl, ap, sym, subst, ◌∙◌, arith}
+use Rattle.std.proofs.Common.{◌≡◌, ℕ, ◌≤◌, ◌<◌, Bool, true, ◌&&◌, nat_le, nat_lt, List, [], ◌∷◌, length, map, refl, ap, sym, subst, arith}
 use Rattle.std.specs.List.{AllByRecursion, list_all}
 use Rattle.std.proofs.lemmas.Bool.Decides.{nat_tests}
 use Rattle.core1_ast.specs.declared.module.ty.Ty1.TheVariants as types
@@ -60,7 +60,7 @@ module _ (m : Module1) where
           items = subst (λ k. AllByRecursion (λ x. x < k) e.items) n (true_below (length s.funcs) e.items (and_second (nat_lt e.table s.tables && is_constant (map global_type s.globals) e.offset types.I32) _ b));
         }))
         (λ h. and_both _ _ (and_both _ _ (lt_true e.table s.tables (subst (λ k. e.table < k) (sym are.tables) h.table)) (true_constant (context m) (map global_type s.globals) e.offset types.I32 (sym are.globals) h.offset))
-            (below_true (length s.funcs) e.items (subst (λ k. AllByRecursion (λ x. x < k) e.items) (sym n) h.items)))
+        (below_true (length s.funcs) e.items (subst (λ k. AllByRecursion (λ x. x < k) e.items) (sym n) h.items)))
 
     pub segment_decided : (r : Bool) (d : Segment1) → r ≡ (nat_lt d.memory s.memories && is_constant (map global_type s.globals) d.offset types.I32) → Decided r (TypedSegment m d)
     segment_decided r d f = decided_by r _ (TypedSegment m d) f

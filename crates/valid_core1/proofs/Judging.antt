@@ -13,12 +13,11 @@ use Rattle.typing_kit.specs.declared.plan.Plan.{Plan}
 use Rattle.typing_kit.specs.declared.plan.Met.{Met}
 use Rattle.typing_kit.specs.declared.plan.Met.TheVariants as mets
 use Rattle.typing_kit.specs.declared.operand.Operand.{Operand}
-use Rattle.typing_kit.specs.Form.{Untyped, Block, Choice}
+use Rattle.typing_kit.specs.Form.{Block, Choice}
 use Rattle.typing_kit.specs.Matching.{known}
-use Rattle.typing_kit.specs.Typing.{TypedCode}
 use Rattle.typing_kit.specs.Stack.{Stack, fit, fit_whole}
 use Rattle.typing_kit.specs.Steps.{IsPlanOf, IsLeaf, stepped}
-use Rattle.typing_kit.specs.Progress.{From, Leads, Stuck}
+use Rattle.typing_kit.specs.Progress.{From}
 use Rattle.typing_kit.proofs.Laws.{Lawful, lawful_of_equality}
 use Rattle.typing_kit.proofs.Leading.{begun, ended}
 use Rattle.typing_kit.proofs.Forms.{block_exactly, choice_exactly, exactly_leads, block_stuck, choice_stuck, choice_lacks, untyped_stuck}
@@ -64,9 +63,11 @@ module _ (s : Scope) where
     pub block_typed : (new : Stack Ty1) → is_block type code ≡ true → IsInside s labels label type code → new ≡ record old { top = reverse (known (block_results type)) ++ old.top } → Judged s labels i old new true
     unfolding Judged IsInside
     block_typed new b inside e =
-        subst (λ n. Judged s labels i old n true) (sym e)
-        (exactly_leads (language (context_of s)) laws (label_types labels) i old.dead old.top [] (block_results type)
-        (block_exactly (language (context_of s)) (label_types labels) i (block_results label) [] (block_results type) code (block_form b) inside) refl, refl)
+        subst (λ n. Judged s labels i old n true) (sym e) (
+          exactly_leads (language (context_of s)) laws (label_types labels) i old.dead old.top [] (block_results type)
+              (block_exactly (language (context_of s)) (label_types labels) i (block_results label) [] (block_results type) code (block_form b) inside) refl,
+          refl,
+        )
 
   -- an if
   module _ (labels : List BlockType1) (type : BlockType1) (first second : List Instr1) (i : Instr1) (old : Stack Ty1) (choice : IsChoice s labels type first second i) where
@@ -89,9 +90,11 @@ module _ (s : Scope) where
     pub choice_typed : (new : Stack Ty1) → (is_block type first && is_short second) ≡ true → fit same_type old.dead old.top (types.I32 ∷ []) ≡ true → IsInside s labels type type first → IsInside s labels type type second → new ≡ record old { top = reverse (known (block_results type)) ++ drop 1 old.top } → Judged s labels i old new true
     unfolding Judged IsInside
     choice_typed new b f one two e =
-        subst (λ n. Judged s labels i old n true) (sym e)
-        (exactly_leads (language (context_of s)) laws (label_types labels) i old.dead old.top (types.I32 ∷ []) (block_results type)
-        (choice_exactly (language (context_of s)) (label_types labels) i (block_results type) [] (block_results type) first second (choice_form true b) one two) f, refl)
+        subst (λ n. Judged s labels i old n true) (sym e) (
+          exactly_leads (language (context_of s)) laws (label_types labels) i old.dead old.top (types.I32 ∷ []) (block_results type)
+              (choice_exactly (language (context_of s)) (label_types labels) i (block_results type) [] (block_results type) first second (choice_form true b) one two) f,
+          refl,
+        )
 
   -- a turn of the loop over code: what is typed is what was to be typed
   module _ (labels : List BlockType1) (i : Instr1) (old new : Stack Ty1) (code : List Instr1) (k : ℕ) (after : List (Operand Ty1)) (W : Type 0) (so_far : From (language (context_of s)) (label_types labels) old.dead old.top (drop k code) after ↔ W) (at_k : drop k code ≡ i ∷ drop (k + 1) code) where
@@ -114,9 +117,10 @@ module _ (s : Scope) where
   unfolding IsInside
   code_begins labels pushed label type code e =
       let b = begun (language (context_of s)) laws (block_results label ∷ label_types labels) code [] (known (block_results type)) in
-      let same : label_types pushed ≡ block_results label ∷ label_types labels = ap label_types e ∙ label_pushed labels label in
-      (λ f. b.1 (subst (λ l. From (language (context_of s)) l false [] code (known (block_results type))) same f),
-       λ t. subst (λ l. From (language (context_of s)) l false [] code (known (block_results type))) (sym same) (b.0 t))
+      let same : label_types pushed ≡ block_results label ∷ label_types labels = ap label_types e ∙ label_pushed labels label in (
+        λ f. b.1 (subst (λ l. From (language (context_of s)) l false [] code (known (block_results type))) same f),
+        λ t. subst (λ l. From (language (context_of s)) l false [] code (known (block_results type))) (sym same) (b.0 t),
+      )
 
   pub code_ends : (labels : List BlockType1) (type : BlockType1) (stack : Stack Ty1) (code : List Instr1) (k : ℕ) (W : Type 0) (r : Bool) → drop k code ≡ [] → (From (language (context_of s)) (label_types labels) stack.dead stack.top (drop k code) (known (block_results type)) ↔ W) → r ≡ fit_whole same_type stack.dead stack.top (reverse (block_results type)) → Decided r W
   code_ends labels type stack code k W true e so_far f =
@@ -124,8 +128,8 @@ module _ (s : Scope) where
       ((ended (language (context_of s)) laws (label_types labels) stack.dead stack.top (block_results type)).0 (sym f)))
   code_ends labels type stack code k W false e so_far f =
       λ w. (let fits = (ended (language (context_of s)) laws (label_types labels) stack.dead stack.top (block_results type)).1
-          (subst (λ l. From (language (context_of s)) (label_types labels) stack.dead stack.top l (known (block_results type))) e (so_far.1 w)) in
-          let no : true ≡ false = sym fits ∙ sym f in cc)
+      (subst (λ l. From (language (context_of s)) (label_types labels) stack.dead stack.top l (known (block_results type))) e (so_far.1 w)) in
+      let no : true ≡ false = sym fits ∙ sym f in cc)
 
 -- what a decided fact is at an answer
 pub decided_yes : (r : Bool) (P : Type 0) → Decided r P → r ≡ true → P

@@ -5,3 +5,8 @@ pub mod Constants
 pub mod Deciding
 pub mod Names
 pub mod Shortness
+pub mod Order
+pub mod Inside
+pub mod Firsts
+pub mod Whole
+pub mod Unique

@@ -1,9 +1,8 @@
 -- The names of exports that were seen, as a set of texts.
-use Rattle.std.proofs.Common.{◌≡◌, ◌≢◌, ℕ, zero, suc, ◌+◌, ◌≤◌, ◌<◌, ◌⊎◌, inl, inr, Bool, true, false, cond, not, List, [], ◌∷◌, length, get_or, Option, Some, None, slice_get, IfSome, refl, ap, sym, subst, ◌∙◌, arith}
+use Rattle.std.proofs.Common.{◌≡◌, ℕ, ◌+◌, ◌≤◌, ◌<◌, Bool, true, false, cond, not, List, [], Some, slice_get, IfSome, refl, ap, sym, subst, ◌∙◌, arith}
 use Rattle.std.specs.declared.cmp.Ordering.{Ordering}
 use Rattle.std.specs.Ordering.{is_eq, nat_cmp}
 use Rattle.std.specs.Cmp.Lexicographic.{slice_cmp}
-use Rattle.std.specs.Str.{bytes_eq}
 use Rattle.std.proofs.lemmas.Map.Text.{is_eq-slice_cmp}
 use Rattle.std.proofs.lemmas.Slice.Eq.{bytes_eq-Decides}
 use Rattle.std.specs.Borrow.{Bor}
@@ -57,15 +56,15 @@ named_more xs n e q is old new true es en d =
 named_more xs n e q is true new false es en d =
     decided_by_true new _ en (record { place = d.place; export = d.export; within = (let h = d.within in omega arith); is = d.is; named = d.named })
 named_more xs n e q is false new false es en d = decided_by_false new _ en (λ m. at_place m (dec_le n m.place))
-    where
-      at_place : (m : Named xs (n + 1) q) → Dec (n ≤ m.place) → ⊥
-      at_place m (yes h) =
-          let w = m.within in
-          let k : m.place ≡ n = omega arith in
-          let both : Some m.export ≡ Some e = sym m.is ∙ ap (slice_get xs) k ∙ is in
-          let named : e.name ≡ q = ap (λ x. x.name) (let same : e ≡ m.export = cc in same) ∙ m.named in
-          let no : true ≡ false = sym (name_same e.name q named) ∙ sym es in cc
-      at_place m (no h) = d (record { place = m.place; export = m.export; within = omega arith; is = m.is; named = m.named })
+  where
+    at_place : (m : Named xs (n + 1) q) → Dec (n ≤ m.place) → ⊥
+    at_place m (yes h) =
+        let w = m.within in
+        let k : m.place ≡ n = omega arith in
+        let both : Some m.export ≡ Some e = sym m.is ∙ ap (slice_get xs) k ∙ is in
+        let named : e.name ≡ q = ap (λ x. x.name) (let same : e ≡ m.export = cc in same) ∙ m.named in
+        let no : true ≡ false = sym (name_same e.name q named) ∙ sym es in cc
+    at_place m (no h) = d (record { place = m.place; export = m.export; within = omega arith; is = m.is; named = m.named })
 
 pub more_names : (s t : BTreeSet (Bor (List ℕ))) (xs : List Export1) (n : ℕ) (e : Export1) (key : Bor (List ℕ)) → slice_get xs n ≡ Some e → key.now ≡ e.name → HasNames s xs n → Updates name_cmp s t key true → HasNames t xs (n + 1)
 more_names s t xs n e key is named old u q =
@@ -75,18 +74,18 @@ more_names s t xs n e key is named old u q =
 pub name_is_new : (s : BTreeSet (Bor (List ℕ))) (xs : List Export1) (n : ℕ) (e : Export1) (key : Bor (List ℕ)) (added : Bool) → key.now ≡ e.name → HasNames s xs n → added ≡ not (contains name_cmp s key) → added ≡ true → IsNew xs n e
 name_is_new s xs n e key added named old a t j other within is same =
     at (contains name_cmp s key) refl (old key)
-    where
-      at : (b : Bool) → contains name_cmp s key ≡ b → Decided b (Named xs n key.now) → ⊥
-      at true f d = (let no : true ≡ false = sym t ∙ a ∙ ap not f in cc)
-      at false f d = d (record { place = j; export = other; within = within; is = is; named = same ∙ sym named })
+  where
+    at : (b : Bool) → contains name_cmp s key ≡ b → Decided b (Named xs n key.now) → ⊥
+    at true f d = (let no : true ≡ false = sym t ∙ a ∙ ap not f in cc)
+    at false f d = d (record { place = j; export = other; within = within; is = is; named = same ∙ sym named })
 
 pub name_is_old : (s : BTreeSet (Bor (List ℕ))) (xs : List Export1) (n : ℕ) (e : Export1) (key : Bor (List ℕ)) (added : Bool) → key.now ≡ e.name → HasNames s xs n → added ≡ not (contains name_cmp s key) → added ≡ false → IsNew xs n e → ⊥
 name_is_old s xs n e key added named old a t new =
     at (contains name_cmp s key) refl (old key)
-    where
-      at : (b : Bool) → contains name_cmp s key ≡ b → Decided b (Named xs n key.now) → ⊥
-      at true f d = new d.place d.export d.within d.is (d.named ∙ named)
-      at false f d = (let no : true ≡ false = sym (a ∙ ap not f) ∙ t in cc)
+  where
+    at : (b : Bool) → contains name_cmp s key ≡ b → Decided b (Named xs n key.now) → ⊥
+    at true f d = new d.place d.export d.within d.is (d.named ∙ named)
+    at false f d = (let no : true ≡ false = sym (a ∙ ap not f) ∙ t in cc)
 
 -- an export at its place
 pub export_typed : (m : Module1) (k : ℕ) (e : Export1) → slice_get m.exports k ≡ Some e → TypedDesc m e.desc → IsNew m.exports k e → PartTyped m Exports k

@@ -1,23 +1,20 @@
 -- The rules of 1.0, one for each instruction, are the rules over forms.
-use Rattle.std.proofs.Common.{◌≡◌, ℕ, ◌≤◌, ◌<◌, ◌^◌, ◌↔◌, Bool, true, false, ◌&&◌, cond, nat_le, nat_lt, List, [], ◌∷◌, ◌++◌, length, map, Option, Some, None, slice_get, refl, ap, sym, subst, ◌∙◌, arith}
+use Rattle.std.proofs.Common.{◌≡◌, ℕ, ◌≤◌, ◌<◌, ◌↔◌, Bool, true, false, ◌&&◌, nat_le, List, [], ◌∷◌, ◌++◌, length, Option, Some, None, slice_get, refl, ap, sym, subst, ◌∙◌, arith}
 use Rattle.std.specs.List.{AllByRecursion, list_all}
 use Rattle.std.proofs.lemmas.List.{append_assoc, append-nil}
 use Rattle.std.proofs.lemmas.Bool.Decides.{nat_tests}
 use Rattle.core1_ast.specs.declared.module.ty.Ty1.{Ty1}
 use Rattle.core1_ast.specs.declared.module.ty.Ty1.TheVariants as types
 use Rattle.core1_ast.specs.declared.module.ty.BlockType1.{BlockType1}
-use Rattle.core1_ast.specs.declared.module.immediates.MemArg1.{MemArg1}
 use Rattle.core1_ast.specs.declared.module.code.Instr1.{Instr1, out-Instr1, roll-Instr1}
 use Rattle.core1_ast.specs.declared.module.code.Instr1.TheOpen.{Instr1-F}
 use Rattle.core1_ast.specs.declared.module.code.Instr1.TheViews as views
-use Rattle.core1_ast.specs.declared.module.code.Instr1.TheVariants as instrs
 use Rattle.core1_ast.specs.Operands.{op_takes, op_gives, load_type, load_bytes, store_type, store_bytes, block_results}
 use Rattle.core1_ast.specs.Lengths.{IsShort}
 use Rattle.core1_ast.specs.Code as code
 use Rattle.core1_ast.specs.Code.{Context, Typed, TypedCode, TypedTy, labelled, func_type}
-use Rattle.typing_kit.specs.declared.kind.Kind.{Kind}
 use Rattle.typing_kit.specs.declared.kind.Kind.TheVariants as kinds
-use Rattle.typing_kit.specs.Form.{Form, Language, Untyped, Flat, Any, Select, Leaves, Table, Block, Choice}
+use Rattle.typing_kit.specs.Form.{Form, Untyped, Flat, Any, Select, Leaves, Table, Block, Choice}
 use Rattle.typing_kit.specs.Bottomless as values
 use Rattle.typing_kit.specs.Bottomless.{IsBottomless, ValuesTyped, ValuesCode}
 use Rattle.typing_kit.specs.Matching.{known}

@@ -1,5 +1,5 @@
 -- Lists that are short.
-use Rattle.std.proofs.Common.{◌≡◌, ℕ, zero, suc, ◌<◌, ◌≤◌, Bool, true, false, ◌&&◌, List, [], ◌∷◌, length, Option, Some, None, slice_get, is_some, is_none, refl, ap, sym, ◌∙◌, arith}
+use Rattle.std.proofs.Common.{◌≡◌, ℕ, suc, ◌<◌, Bool, true, false, ◌&&◌, List, [], ◌∷◌, length, Option, Some, None, is_some, not, ap, sym, subst, ◌∙◌, arith}
 use Rattle.std.specs.List.{AllByRecursion}
 use Rattle.core1_ast.specs.declared.module.parts.Module1.{Module1}
 use Rattle.core1_ast.specs.Lengths.{IsShort, IsShortType, IsShortImport, IsShortElement, IsShortBody, IsShortSegment, IsShortModule}
@@ -13,14 +13,14 @@ pub all_places : {X : Type 0} (P : X → Type 0) (xs : List X) → ((k : ℕ) �
 all_places P [] h = tt
 all_places P (x ∷ xs) h = (h 0 (omega arith), all_places P xs (λ k l. h (suc k) (omega arith)))
 
--- where none was found, by either test of the answer
-pub none_found : {X : Type 0} (P : X → Type 0) (xs : List X) (r : Option ℕ) → Finds (At xs (λ _. P)) (length xs) r → is_some r ≡ false → AllByRecursion P xs
-none_found P xs None f e = all_places P xs f
-none_found P xs (Some k) f e = let no : ⊥ = cc in absurd no
+-- where none was found, by either test of the answer; the list was read as another one
+pub none_found : {X : Type 0} (P : X → Type 0) (xs ys : List X) (r : Option ℕ) (b : Bool) → ys ≡ xs → Finds (At ys (λ _. P)) (length ys) r → b ≡ is_some r → b ≡ false → AllByRecursion P xs
+none_found P xs ys None b e f g h = subst (AllByRecursion P) e (all_places P ys f)
+none_found P xs ys (Some k) b e f g h = let no : true ≡ false = sym g ∙ h in let no2 : ⊥ = cc in absurd no2
 
-pub none_is : {X : Type 0} (P : X → Type 0) (xs : List X) (r : Option ℕ) → Finds (At xs (λ _. P)) (length xs) r → is_none r ≡ true → AllByRecursion P xs
-none_is P xs None f e = all_places P xs f
-none_is P xs (Some k) f e = let no : ⊥ = cc in absurd no
+pub none_is : {X : Type 0} (P : X → Type 0) (xs ys : List X) (r : Option ℕ) (b : Bool) → ys ≡ xs → Finds (At ys (λ _. P)) (length ys) r → is_some r ≡ not b → b ≡ true → AllByRecursion P xs
+none_is P xs ys None b e f g h = subst (AllByRecursion P) e (all_places P ys f)
+none_is P xs ys (Some k) b e f g h = let no : true ≡ false = g ∙ ap not h in let no2 : ⊥ = cc in absurd no2
 
 pub short_module : (m : Module1) → lists_are_short m ≡ true → AllByRecursion IsShortType m.types → AllByRecursion IsShortImport m.imports → AllByRecursion (λ g. IsShort g.init) m.globals → AllByRecursion (λ e. IsShort e.name) m.exports → AllByRecursion IsShortElement m.elems → AllByRecursion IsShortBody m.codes → AllByRecursion IsShortSegment m.datas → IsShortModule m
 short_module m e types imports globals exports elems codes datas =

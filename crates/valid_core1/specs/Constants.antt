@@ -1,5 +1,5 @@
 -- The type of an instruction that is a constant expression by itself ("Constant Expressions" of chapter 3).
-use Rattle.std.specs.Prelude.{Bool, true, false, cond, List, [], ◌∷◌, Option, Some, None, slice_get}
+use Rattle.std.specs.Prelude.{Bool, false, cond, List, [], ◌∷◌, Option, Some, None, slice_get}
 use Rattle.core1_ast.specs.declared.module.ty.Ty1.{Ty1}
 use Rattle.core1_ast.specs.declared.module.ty.Ty1.TheVariants as types
 use Rattle.core1_ast.specs.declared.module.op.Op1.{Op1}

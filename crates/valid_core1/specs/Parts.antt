@@ -1,8 +1,6 @@
 -- When each part of a module of 1.0 is typed by itself ("Modules" of chapter 3), and the order of the parts: that of
 -- their sections, and in a section that of their places.
-use Rattle.std.specs.Prelude.{◌≡◌, ◌≢◌, ℕ, ◌<◌, ◌+◌, List, [], length, take, filter_map, Option, Some, None, IfSome, slice_get}
-use Rattle.core1_ast.specs.declared.module.ty.Limits1.{Limits1}
-use Rattle.core1_ast.specs.declared.module.code.Body1.{Body1}
+use Rattle.std.specs.Prelude.{◌≡◌, ◌≢◌, ℕ, ◌<◌, ◌+◌, List, length, take, filter_map, Some, IfSome, slice_get}
 use Rattle.core1_ast.specs.declared.module.parts.ImportDesc1.{ImportDesc1}
 use Rattle.core1_ast.specs.declared.module.parts.ImportDesc1.TheVariants as imports
 use Rattle.core1_ast.specs.declared.module.parts.Import1.{Import1}

@@ -1,5 +1,5 @@
 -- The context that the algorithm keeps of a module and of a function.
-use Rattle.std.specs.Prelude.{◌≡◌, ℕ, List, [], ◌++◌, length, map, take, reverse, Some}
+use Rattle.std.specs.Prelude.{◌≡◌, List, [], ◌++◌, length, map, take, reverse, Some}
 use Rattle.core1_ast.specs.declared.module.ty.BlockType1.{BlockType1}
 use Rattle.core1_ast.specs.declared.module.ty.Ty1.{Ty1}
 use Rattle.core1_ast.specs.declared.module.parts.Module1.{Module1}

@@ -1,12 +1,5 @@
 -- What a search through the parts of a section finds.
-use Rattle.std.specs.Prelude.{◌≡◌, ℕ, ◌<◌, List, map, Option, Some, None, IfSome, slice_get}
-use Rattle.core1_ast.specs.declared.module.ty.Ty1.{Ty1}
-use Rattle.core1_ast.specs.declared.module.ty.Ty1.TheVariants as types
-use Rattle.core1_ast.specs.declared.module.op.Op1.{Op1}
-use Rattle.core1_ast.specs.declared.module.op.Op1.TheVariants as ops
-use Rattle.core1_ast.specs.declared.module.code.Instr1.{Instr1}
-use Rattle.core1_ast.specs.declared.module.code.Instr1.TheOpen.{Instr1-F}
-use Rattle.core1_ast.specs.Spaces.{GlobalType}
+use Rattle.std.specs.Prelude.{ℕ, ◌<◌, List, Option, Some, None, IfSome, slice_get}
 
 -- the first place, among so many, at which the fact does not hold
 abbrev pub Finds : (ℕ → Type 0) → ℕ → Option ℕ → Type 0

@@ -31,9 +31,28 @@ Tells m (Err (Part section place)) = (s : Section) × (section ≡ id s) × Firs
 Tells m (Err (Body place)) = FirstBody m place
 Tells m (Err (Memory e)) = Unit {0}
 
--- the same of an answer that is no want of memory
+-- what the answer of a search through the parts says
+abbrev pub TellsOfParts : Module1 → Result (Unit {0}) Invalid → Type 0
+TellsOfParts m (Ok done) = (s : Section) → SectionTyped m s
+TellsOfParts m (Err (Part section place)) = (s : Section) × (section ≡ id s) × FirstPart m s place
+TellsOfParts m (Err (Body place)) = ⊥
+TellsOfParts m (Err (Memory e)) = Unit {0}
+
+-- what the answer of a search through parts and bodies says
+abbrev pub TellsOfAll : Module1 → Result (Unit {0}) Invalid → Type 0
+TellsOfAll m (Ok done) = Typed1 m
+TellsOfAll m (Err fault) = Tells m (Err fault)
+
+-- what `Tells` says, of an answer that is no want of memory
 abbrev pub Settles : Module1 → Result Module1 Invalid → Type 0
 Settles m (Err (Memory e)) = ⊥
 Settles m (Ok found) = Tells m (Ok found)
 Settles m (Err (Part section place)) = Tells m (Err (Part section place))
 Settles m (Err (Body place)) = Tells m (Err (Body place))
+
+-- the answer is the other one, unless memory was not found
+abbrev pub Agrees : Result Module1 Invalid → Result Module1 Invalid → Type 0
+Agrees (Err (Memory e)) other = Unit {0}
+Agrees (Ok found) other = other ≡ Ok found
+Agrees (Err (Part section place)) other = other ≡ Err (Part section place)
+Agrees (Err (Body place)) other = other ≡ Err (Body place)

@@ -43,11 +43,9 @@ pub fn loaded(op: Load) -> &'static [Ty1]
     ensures { result.now ≡ load_type op ∷ [] }
 {
     match op {
-        Load::I32
-        | Load::I32From8S
-        | Load::I32From8U
-        | Load::I32From16S
-        | Load::I32From16U => &[Ty1::I32],
+        Load::I32 | Load::I32From8S | Load::I32From8U | Load::I32From16S | Load::I32From16U => &[
+            Ty1::I32,
+        ],
         _ => &[Ty1::I64],
     }
 }

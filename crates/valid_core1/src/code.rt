@@ -60,12 +60,7 @@ fn check_block(
 }
 
 /// Whether an if may have these results and arms here, over a condition, which it takes.
-fn opens_choice(
-    operands: &mut Operands<Ty1>,
-    ty: BlockType1,
-    first: &Code1,
-    second: &Code1,
-) -> bool
+fn opens_choice(operands: &mut Operands<Ty1>, ty: BlockType1, first: &Code1, second: &Code1) -> bool
     ensures opened { result ≡ true → Opens ty first.now second.now operands.old operands.new }
     ensures refused { result ≡ false → (s : Scope) (labels : List BlockType1) (i : Instr1) → IsChoice s labels ty first.now second.now i → Judged s labels i operands.old operands.new false }
 {
@@ -119,7 +114,7 @@ fn check_instr(
 /// Whether the code is typed under a label of its own, over no operands, with these results. Where it is, the labels and
 /// the operands are as before.
 #[cycle(typing)]
-fn check_code(
+pub fn check_code(
     scope: &Scope<'_>,
     labels: &mut Items<BlockType1>,
     operands: &mut Operands<Ty1>,

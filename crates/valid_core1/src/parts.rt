@@ -13,4 +13,4 @@ pub use globals::GlobalTest;
 pub use imports::{ImportTest, count_memories, count_tables};
 pub use limits::{LimitsTest, MEMORY_BOUND, TABLE_BOUND};
 pub use segments::{ElementTest, SegmentTest};
-pub use types::{FuncTest, TypeTest};
+pub use types::{FuncTest, TypeTest, all_integers};

@@ -7,9 +7,7 @@ ghost use Rattle.valid_core1.specs.Short.{lists_are_short as lists_are_short_of}
 
 use crate::labels::is_short;
 use crate::search::{PartTest, first_untyped};
-use core1_ast::module::{
-    Body1, Element1, Export1, FuncType1, Global1, Import1, Module1, Segment1,
-};
+use core1_ast::module::{Body1, Element1, Export1, FuncType1, Global1, Import1, Module1, Segment1};
 
 struct ShortTypes;
 

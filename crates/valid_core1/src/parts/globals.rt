@@ -20,6 +20,7 @@ fn global_is_typed(globals: &[GlobalTy], global: &Global1) -> bool
 }
 
 /// The test of globals.
+#[derive(Drop)]
 pub struct GlobalTest<'a> {
     /// The module.
     pub module: &'a Module1,

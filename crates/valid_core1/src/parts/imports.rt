@@ -38,6 +38,7 @@ pub fn count_memories(imports: &[Import1]) -> usize
 
 /// The test of imports. A table or a memory looks through the imports before it. This takes no long, since no second one
 /// is typed.
+#[derive(Drop)]
 pub struct ImportTest<'a> {
     /// The module.
     pub module: &'a Module1,

@@ -24,6 +24,7 @@ pub fn limits_are_typed(bound: u64, limits: &Limits1) -> bool
 }
 
 /// The test of tables, or of memories, which are typed only at the first place of their index space.
+#[derive(Drop)]
 pub struct LimitsTest {
     /// The greatest size.
     pub bound: u64,

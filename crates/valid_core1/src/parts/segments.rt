@@ -41,6 +41,7 @@ fn segment_is_typed(spaces: &Spaces, segment: &Segment1) -> bool
 }
 
 /// The test of element segments.
+#[derive(Drop)]
 pub struct ElementTest<'a> {
     /// The module.
     pub module: &'a Module1,
@@ -67,6 +68,7 @@ impl<'a> PartTest for ElementTest<'a> {
 }
 
 /// The test of data segments.
+#[derive(Drop)]
 pub struct SegmentTest<'a> {
     /// The module.
     pub module: &'a Module1,

@@ -30,6 +30,7 @@ fn func_type_is_typed(ty: &FuncType1) -> bool
 }
 
 /// The test of function types.
+#[derive(Drop)]
 pub struct TypeTest;
 
 impl PartTest for TypeTest {
@@ -50,6 +51,7 @@ impl PartTest for TypeTest {
 }
 
 /// The test of the functions of a module with so many types.
+#[derive(Drop)]
 pub struct FuncTest {
     /// How many types there are.
     pub types: usize,

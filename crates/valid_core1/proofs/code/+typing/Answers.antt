@@ -1,9 +1,8 @@
-use Rattle.std.proofs.Common.{◌≡◌, ◌+◌, true, false, ◌∷◌, drop, reverse, length, get_or, ap, sym, ◌∙◌, refl, arith}
+use Rattle.std.proofs.Common.{◌≡◌, ◌+◌, ◌∷◌, drop, reverse, length, get_or, ap, sym, ◌∙◌, refl, arith}
 use Rattle.std.proofs.lemmas.List.{drop_all}
 use Rattle.typing_kit.specs.Stack.{fit_whole}
 use Rattle.valid_core1.specs.Forms.{same_type}
 use Rattle.std.proofs.lemmas.Result.{IfOk-weaker}
-use Rattle.core1_ast.specs.declared.module.ty.BlockType1.TheVariants as blocks
 use Rattle.valid_core1.proofs.Judging.{block_untyped, block_not_inside, block_typed, choice_not_inside, choice_typed, code_starts, code_turn, code_stops, code_ends, decided_yes, decided_no, judged_at, inside_at, pushed, pushed_under, block_is, loop_is, choice_is, drop_at_item, judged_outer, under_labels}
 use Rattle.valid_core1.proofs.code.+typing.Goals as goal
 use Rattle.valid_core1.proofs.code.+typing.Goals.{check_code-After-check_instr}
@@ -77,7 +76,7 @@ check_instr-returns-then-not-branch-2-clause-judged t c =
     choice_not_inside c.args.scope.now c.args.labels.now c.in-If.ty c.in-If.first c.in-If.second c.args.instr.now c.args.operands.now (choice_is _ _ _ _ _ _ c.in-If.is) _
     (c.opens_choice.ensures.opened c.if-not-opens_choice.false).arms
     (λ one two. decided_no c.in_ok-check_code-in-If-2.field-0 _ c.in_ok-check_code-in-If-2.ensures.typed c.if-not-branch-2.true
-        (inside_at _ _ _ _ _ _ (sym (c.in_ok-check_code-in-If.ensures.labels c.if-not-branch.false)) two))
+    (inside_at _ _ _ _ _ _ (sym (c.in_ok-check_code-in-If.ensures.labels c.if-not-branch.false)) two))
 
 pub check_instr-returns-in-Block-clause-judged : goal.check_instr-returns-in-Block-clause-judged
 check_instr-returns-in-Block-clause-judged t c =
@@ -95,4 +94,4 @@ check_instr-returns-in_ok-push_all-in-If-clause-judged t c =
     (decided_yes c.in_ok-check_code-in-If.field-0 _ c.in_ok-check_code-in-If.ensures.typed c.if-not-branch.false)
     (inside_at _ _ _ _ _ _ (c.in_ok-check_code-in-If.ensures.labels c.if-not-branch.false) (decided_yes c.in_ok-check_code-in-If-2.field-0 _ c.in_ok-check_code-in-If-2.ensures.typed c.if-not-branch-2.false))
     (pushed_under c.args.operands.now c.check_code-in-If.new.operands c.push_all.new.self c.results.result.now c.in-If.ty
-        (c.in_ok-check_code-in-If-2.ensures.operands c.if-not-branch-2.false ∙ c.in_ok-check_code-in-If.ensures.operands c.if-not-branch.false ∙ opened.taken) c.results.ensures c.in_ok-push_all-in-If.ensures)
+    (c.in_ok-check_code-in-If-2.ensures.operands c.if-not-branch-2.false ∙ c.in_ok-check_code-in-If.ensures.operands c.if-not-branch.false ∙ opened.taken) c.results.ensures c.in_ok-push_all-in-If.ensures)

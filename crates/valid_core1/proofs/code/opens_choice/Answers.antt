@@ -1,5 +1,5 @@
 use Rattle.std.proofs.Common.{◌≡◌, ◌&&◌, Bool, true, false, sym, ◌∙◌, ap, nat_lt, ◌^◌}
-use Rattle.valid_core1.specs.Forms.{is_block, is_short}
+use Rattle.valid_core1.specs.Forms.{is_block}
 use Rattle.valid_core1.proofs.Rules.{and_both}
 use Rattle.valid_core1.proofs.Judging.{choice_untyped, choice_not_fitting}
 use Rattle.valid_core1.proofs.code.opens_choice.Goals as goal

@@ -2,7 +2,6 @@ use Rattle.std.proofs.Common.{◌≡◌, ℕ, zero, suc, List, [], ◌∷◌, ma
 use Rattle.std.specs.Option.{option_map}
 use Rattle.core1_ast.specs.declared.module.code.Instr1.{out-Instr1}
 use Rattle.core1_ast.specs.declared.module.code.Instr1.TheViews.{outs-GlobalGet}
-use Rattle.core1_ast.specs.Spaces.{GlobalType}
 use Rattle.valid_core1.specs.declared.spaces.GlobalTy.{GlobalTy}
 use Rattle.valid_core1.specs.Constants.{constant_type, fixed_type}
 use Rattle.valid_core1.specs.Scopes.{global_type}

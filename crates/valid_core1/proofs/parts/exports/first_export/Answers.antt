@@ -1,7 +1,7 @@
-use Rattle.std.proofs.Common.{◌≡◌, Some, slice_get, get_or, length, ap, ◌∙◌, sym, refl, arith, below_more}
+use Rattle.std.proofs.Common.{◌≡◌, Some, slice_get, get_or, length, ap, ◌∙◌, refl, arith, below_more}
 use Rattle.std.proofs.lemmas.Option.{slice_get_read}
 use Rattle.valid_core1.proofs.Judging.{decided_yes, decided_no}
-use Rattle.valid_core1.proofs.Names.{no_names, more_names, name_is_new, name_is_old, export_typed, export_untyped}
+use Rattle.valid_core1.proofs.Names.{no_names, more_names, name_is_new, export_typed, export_untyped}
 use Rattle.valid_core1.proofs.parts.exports.first_export.Goals as goal
 use Rattle.valid_core1.proofs.parts.exports.first_export.Goals.{After-is_in_range}
 
@@ -15,9 +15,11 @@ pub loop-place-init : goal.loop-place-init
 loop-place-init c = record { typed = λ k h. absurd (omega arith); names = no_names _ _ c.new-names.ensures.empty }
 
 pub returns-then-not-is_in_range : goal.returns-then-not-is_in_range
-returns-then-not-is_in_range c =
-    (omega (arith, ap length c.as_slice-export-items.ensures), c.loop-place.invariant.typed,
-     export_untyped c.args.source.now c.loop-place.place c.export-item.result (here (goal.at.returns-then-not-is_in_range c).After-is_in_range) (λ d n. decided_no c.is_in_range.result _ c.is_in_range.ensures c.if-not-is_in_range.true d))
+returns-then-not-is_in_range c = (
+  omega (arith, ap length c.as_slice-export-items.ensures),
+  c.loop-place.invariant.typed,
+  export_untyped c.args.source.now c.loop-place.place c.export-item.result (here (goal.at.returns-then-not-is_in_range c).After-is_in_range) (λ d n. decided_no c.is_in_range.result _ c.is_in_range.ensures c.if-not-is_in_range.true d),
+)
 
 pub loop-place-preserved : goal.loop-place-preserved
 loop-place-preserved c =
