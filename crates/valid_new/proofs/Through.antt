@@ -19,7 +19,8 @@ use Rattle.typed_trees.proofs.Erasing.{erase_out}
 use Rattle.valid_new.specs.Bodies.{After, Body, BodyOr, Reached, Went, WentOr}
 use Rattle.valid_new.proofs.Holding.{leaves_refilled}
 use Rattle.valid_new.proofs.Matching.{drop_at}
-use Rattle.valid_new.proofs.Tops.{lawful, fitted_values, both_true}
+use Rattle.valid_new.proofs.Tops.{fitted_values, both_true}
+use Rattle.typed_trees.proofs.Lawfulness.{lawful}
 
 leaves_erase : (n : Node) → leaves (erase n) ≡ leaves (head_of n)
 leaves_erase n =
