@@ -18,6 +18,7 @@ use Rattle.typed_trees.specs.Forms.{InstrForm, form, layer_form, language}
 use Rattle.typed_trees.specs.Matching.{matches}
 use Rattle.typed_trees.specs.Trees.{with_bodies, erase, erase_layer, erased, leaves, EndsAs, TypedNode, TypedNodes, plain, block, choice, none, more, last, head_of, takes_of, gives_of, first_of, second_of}
 use Rattle.typed_trees.proofs.LeafTyped.{known_append, typed_leaf, typed_leaving, IsLeaving}
+use Rattle.typed_trees.proofs.Lawfulness.{matches_self}
 use Rattle.typed_trees.proofs.Leaving.{leaving_layer}
 use Rattle.typed_trees.proofs.Refilled.{refill, refilled}
 
@@ -50,17 +51,6 @@ form_block c ls n label takes gives e =
 form_choice : (c : Context) (ls : List (List Ty)) (n : Node) (label takes gives : List Ty) → form c ls (head_of n) ≡ Choice label takes gives [] [] → form c ls (erase n) ≡ Choice label takes gives (erased (first_of n)) (erased (second_of n))
 form_choice c ls n label takes gives e =
     form_erased c ls n ∙ ap (λ f. refill f (erased (first_of n)) (erased (second_of n))) e
-
--- types match themselves
-pub matches_self : (t : Ty) → matches t t ≡ true
-matches_self types.I32 = refl
-matches_self types.I64 = refl
-matches_self types.F32 = refl
-matches_self types.F64 = refl
-matches_self types.V128 = refl
-matches_self types.Func = refl
-matches_self types.Extern = refl
-matches_self types.Exn = refl
 
 pub known_match : (ts : List Ty) → AllMatch matches (known ts) (known ts)
 known_match [] = tt

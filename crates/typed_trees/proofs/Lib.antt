@@ -1,4 +1,5 @@
 pub mod Erasing
+pub mod Lawfulness
 pub mod LeafTyped
 pub mod Leaving
 pub mod Modules

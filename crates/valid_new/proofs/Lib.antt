@@ -1,6 +1,8 @@
 pub mod Alignments
+pub mod AnnotatedBodies
 pub mod Holding
 pub mod Labels
+pub mod Marks
 pub mod Matching
 pub mod Moving
 pub mod Planned

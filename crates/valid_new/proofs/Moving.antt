@@ -22,9 +22,10 @@ use Rattle.typing_kit.specs.Steps.{with_top, took, left, topmost, joined, is_of,
 use Rattle.typed_trees.specs.Contexts.{Context}
 use Rattle.typed_trees.specs.Forms.{InstrForm, language, is_of_kind}
 use Rattle.typed_trees.specs.Matching.{matches}
-use Rattle.typed_trees.proofs.Erasing.{matches_self}
+use Rattle.typed_trees.proofs.Lawfulness.{matches_self}
 use Rattle.valid_new.specs.Bodies.{After, IsMet, type_met, leaf_types, any_types, select_types}
-use Rattle.valid_new.proofs.Tops.{fitted_values, put_on, known_reverse, both_true, matches_equal}
+use Rattle.valid_new.proofs.Tops.{fitted_values, put_on, known_reverse, both_true}
+use Rattle.typed_trees.proofs.Lawfulness.{matches_equal}
 
 -- over values of these types the node has types that fit the form, and what is behind it
 pub record Kept (c : Context) (form : InstrForm) (takes gives : List Ty) (leaving : Bool) (ts : List Ty) (t : Stack Ty) : Type 0 where

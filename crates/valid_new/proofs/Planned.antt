@@ -19,7 +19,7 @@ use Rattle.valid_new.specs.Bodies.{IsMet, Reached, Went, type_met, leaf_types}
 use Rattle.valid_new.specs.Nodes.{NodeIs}
 use Rattle.valid_new.proofs.Moving.{Moves}
 use Rattle.valid_new.proofs.Reaching.{form_by, leaves_by, planned_moves, leaf_reached}
-use Rattle.valid_new.proofs.Tops.{lawful}
+use Rattle.typed_trees.proofs.Lawfulness.{lawful}
 
 module _ (c : Context) (ls : List (List Ty)) (i : Instr) (plan : Plan Ty) (s t : Stack Ty) (met : Met Ty) (p : IsPlanOf plan (form c ls i)) (l : IsLeaf plan) (e : ◌≡◌ {A = Met Ty × Stack Ty} (met, t) (stepped matches is_of_kind I32 plan s)) where
   leads_by : (m : Met Ty) → IsMet m → stepping.Went (language c) (lawful c) ls i m s t → Leads (language c) ls i s.dead s.top t.dead t.top

@@ -26,7 +26,7 @@ use Rattle.valid_new.specs.Nested.{nested_form}
 use Rattle.valid_new.specs.Nodes.{NodeIs}
 use Rattle.valid_new.proofs.Holding.{tree_is, head_form, head_leaves, first_held, both_held}
 use Rattle.valid_new.proofs.Moving.{by_test, flat_moves, Moves}
-use Rattle.valid_new.proofs.Tops.{lawful}
+use Rattle.typed_trees.proofs.Lawfulness.{lawful}
 
 -- typed as one that takes these types and gives those, and a node of it is typed
 pub record Exact (c : Context) (ls : List (List Ty)) (i : Instr) (takes gives : List Ty) (a b : List Node) : Type 0 where

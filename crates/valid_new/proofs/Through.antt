@@ -1,8 +1,6 @@
 -- Typing code, one instruction after another.
 use Rattle.std.proofs.Common.{◌≡◌, ◌↔◌, ℕ, ◌+◌, ◌<◌, ◌≤◌, Bool, true, false, nat_le, ◌&&◌, List, [], ◌∷◌, ◌++◌, map, reverse, drop, length, get_or, Option, Some, None, refl, ap, sym, subst, ◌∙◌, append_assoc, append-nil, arith}
-use Rattle.std.proofs.lemmas.List.{map-append, length-reverse, length-map, length-append, reverse-append, drop_all}
-use Rattle.std.specs.Borrow.{Bor}
-use Rattle.valid_new.specs.Scopes.{labels_of}
+use Rattle.std.proofs.lemmas.List.{map-append, length-reverse, length-map, length-append, drop_all}
 use Rattle.wasm_ast.specs.declared.module.ty.Ty.{Ty}
 use Rattle.wasm_ast.specs.declared.module.code.Instr.{Instr, out-Instr, roll-Instr, out-roll-Instr}
 use Rattle.wasm_ast.specs.declared.module.code.Instr.TheOpen.{Instr-F}
@@ -21,7 +19,8 @@ use Rattle.typed_trees.proofs.Erasing.{erase_out}
 use Rattle.valid_new.specs.Bodies.{After, Body, BodyOr, Reached, Went, WentOr}
 use Rattle.valid_new.proofs.Holding.{leaves_refilled}
 use Rattle.valid_new.proofs.Matching.{drop_at}
-use Rattle.valid_new.proofs.Tops.{lawful, fitted_values, both_true}
+use Rattle.valid_new.proofs.Tops.{fitted_values, both_true}
+use Rattle.typed_trees.proofs.Lawfulness.{lawful}
 
 leaves_erase : (n : Node) → leaves (erase n) ≡ leaves (head_of n)
 leaves_erase n =
@@ -179,10 +178,6 @@ module _ (c : Context) (ls : List (List Ty)) (takes : List Ty) where
               nodes_typed = subst (λ l. TypedNodes c ls l takes (Some a.values)) (append-nil nodes) (a.onwards [] (Some a.values) (none c ls a.values));
               ends = all_values a.values d a.top f;
             }
-
--- one label more
-pub labels_pushed : (labels : List (Bor (List Ty))) (label : Bor (List Ty)) → labels_of (labels ++ label ∷ []) ≡ label.now ∷ labels_of labels
-labels_pushed labels label = ap (λ l. map (λ x. x.now) l) (reverse-append labels (label ∷ []))
 
 -- the instruction at a place of the code
 pub at_place : (code : List Instr) (k : ℕ) (i : Instr) → k < length code → i ≡ get_or code k i → drop k code ≡ i ∷ drop (k + 1) code

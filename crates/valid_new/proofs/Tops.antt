@@ -10,27 +10,11 @@ use Rattle.typing_kit.specs.declared.operand.Operand.TheVariants.{Known}
 use Rattle.typing_kit.specs.Matching.{known}
 use Rattle.typing_kit.specs.Stack.{fit, meets}
 use Rattle.typing_kit.proofs.Lists.{reverse-cons}
-use Rattle.typing_kit.proofs.Laws.{Lawful, lawful_of_equality}
 use Rattle.typed_trees.specs.Contexts.{Context}
 use Rattle.typed_trees.specs.Forms.{language}
 use Rattle.typed_trees.specs.Matching.{matches}
-use Rattle.typed_trees.proofs.Erasing.{matches_self}
+use Rattle.typed_trees.proofs.Lawfulness.{matches_equal}
 use Rattle.typed_trees.proofs.LeafTyped.{known_append}
-
--- types that match are equal
-pub matches_equal : (s t : Ty) → matches s t ≡ true → s ≡ t
-matches_equal I32 I32 h = refl
-matches_equal I64 I64 h = refl
-matches_equal F32 F32 h = refl
-matches_equal F64 F64 h = refl
-matches_equal V128 V128 h = refl
-matches_equal Func Func h = refl
-matches_equal Extern Extern h = refl
-matches_equal Exn Exn h = refl
-matches_equal _ _ h = let no : ⊥ = cc in absurd no
-
-pub lawful : (c : Context) → Lawful (language c)
-lawful c = lawful_of_equality (language c) matches_self matches_equal
 
 pub both_true : (a b : Bool) → (a && b) ≡ true → (a ≡ true) × (b ≡ true)
 both_true true true h = (refl, refl)

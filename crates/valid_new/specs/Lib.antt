@@ -1,4 +1,5 @@
 pub mod Groups
+pub mod Annotated
 pub mod Bodies
 pub mod Nested
 pub mod Nodes

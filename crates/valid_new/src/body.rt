@@ -113,24 +113,22 @@ fn type_table(
     )
 }
 
-/// Types code behind a label, over values of the first types, and asks that it leaves values of the second ones and no
-/// others. The operands and labels around it are as before.
+/// Types code over values of the first types, and asks that it leaves values of the second ones and no others. The
+/// operands and labels around it are as before.
 #[cycle(bodies)]
-fn type_body<'a>(
+pub fn type_code<'a>(
     alloc: Global,
     scope: Scope<'a>,
     labels: &mut Vec<&'a [Ty]>,
     operands: &mut Operands<Ty>,
-    label: &'a [Ty],
     takes: &[Ty],
     gives: &[Ty],
     code: &'a [Instr],
 ) -> Result<Option<Nodes>, AllocError>
-    ensures body { IfOk result (BodyOr (context_of scope.entry) (label.now ∷ labels_of labels.old.items) code.now takes.now gives.now) }
+    ensures body { IfOk result (BodyOr (context_of scope.entry) (labels_of labels.old.items) code.now takes.now gives.now) }
     ensures operands { IfOk result (λ found. IfSome found (λ nodes. operands.new ≡ operands.old)) }
     ensures labels { IfOk result (λ found. IfSome found (λ nodes. labels.new.items ≡ labels.old.items)) }
 {
-    labels.push(label)?;
     let covered = operands.begin();
     operands.push_all(takes)?;
     let mut nodes = Items::new(alloc);
@@ -141,8 +139,35 @@ fn type_body<'a>(
     }
     let fits = fits_whole::<Values>(operands, gives);
     operands.end(covered);
-    labels.pop();
     if fits { Ok(Some(nodes)) } else { Ok(None) }
+}
+
+/// Types the code of an instruction that holds code, behind its label.
+#[cycle(bodies)]
+fn type_arm<'a>(
+    alloc: Global,
+    scope: Scope<'a>,
+    labels: &mut Vec<&'a [Ty]>,
+    operands: &mut Operands<Ty>,
+    nested: Nested<'a>,
+    code: &'a [Instr],
+) -> Result<Option<Nodes>, AllocError>
+    ensures body { IfOk result (BodyOr (context_of scope.entry) (nested.entry.label.now ∷ labels_of labels.old.items) code.now nested.entry.takes.now nested.entry.gives.now) }
+    ensures operands { IfOk result (λ found. IfSome found (λ nodes. operands.new ≡ operands.old)) }
+    ensures labels { IfOk result (λ found. IfSome found (λ nodes. labels.new.items ≡ labels.old.items)) }
+{
+    labels.push(nested.label)?;
+    let found = type_code(
+        alloc,
+        scope,
+        labels,
+        operands,
+        nested.takes,
+        nested.gives,
+        code,
+    )?;
+    labels.pop();
+    Ok(found)
 }
 
 /// Types an instruction. Where it is reached its node is put behind the nodes.
@@ -183,17 +208,7 @@ fn type_nested<'a>(
     ensures went { IfOk result (WentOr (context_of scope.entry) (labels_of labels.old.items) instr.now operands.old operands.new nodes.old nodes.new) }
     ensures labels { IfOk result (λ yes. yes ≡ true → labels.new.items ≡ labels.old.items) }
 {
-    let first = type_body(
-        alloc,
-        scope,
-        labels,
-        operands,
-        nested.label,
-        nested.takes,
-        nested.gives,
-        nested.first,
-    )?;
-    let Some(first) = first else {
+    let Some(first) = type_arm(alloc, scope, labels, operands, nested, nested.first)? else {
         return Ok(false);
     };
     let Some(second) = nested.second else {
@@ -208,17 +223,7 @@ fn type_nested<'a>(
             nodes,
         );
     };
-    let second = type_body(
-        alloc,
-        scope,
-        labels,
-        operands,
-        nested.label,
-        nested.takes,
-        nested.gives,
-        second,
-    )?;
-    let Some(second) = second else {
+    let Some(second) = type_arm(alloc, scope, labels, operands, nested, second)? else {
         return Ok(false);
     };
     put_nested(

@@ -1,14 +1,23 @@
 //! Decides when code of WebAssembly 3.0 is typed, and gives it with its types.
+//!
+//! `plans` says what each instruction does to the operands, by the form that it has in its context (`scope`); `body` types
+//! code, one instruction after another, and puts the nodes of what is reached behind one another; `annotating` types the
+//! body of a function. `specs/Annotated.antt` says what is answered.
 #![tactic(auto)]
 
+mod annotating;
 mod body;
 mod groups;
 mod nested;
 mod nodes;
 mod plans;
 mod scope;
+mod spaces;
 mod types;
 mod values;
 mod widths;
 
+pub use annotating::{Fault, annotate, annotate_body, annotate_func};
+pub use body::type_code;
 pub use scope::{Scope, Spaces};
+pub use spaces::spaces_of;
