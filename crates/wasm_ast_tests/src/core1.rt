@@ -96,17 +96,17 @@ fn leaf(alloc: Global, is_float: bool) -> Result<Code1, AllocError> {
 /// The code of a block with this result, around an if with these arms.
 fn nested(
     alloc: Global,
-    result: BlockType1,
+    outcome: BlockType1,
     first: Code1,
     second: Code1,
 ) -> Result<Code1, AllocError> {
     let arms = one(alloc, Instr1::If(BlockType1::Empty, first, second))?;
-    one(alloc, Instr1::Block(result, arms))
+    one(alloc, Instr1::Block(outcome, arms))
 }
 
-fn put_type(alloc: Global, m: &mut Module1, param: Ty1, result: Ty1) -> Result<(), AllocError> {
+fn put_type(alloc: Global, m: &mut Module1, param: Ty1, gives: Ty1) -> Result<(), AllocError> {
     let params = one(alloc, param)?;
-    let results = one(alloc, result)?;
+    let results = one(alloc, gives)?;
     Ok(m.types.push(FuncType1 { params, results })?)
 }
 
