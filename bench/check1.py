@@ -14,28 +14,10 @@ import sys
 
 from pathlib import Path
 
+from spelling import number, section, vector
+
 I32 = b"\x7f"
 END = b"\x0b"
-
-
-def number(n):
-    out = bytearray()
-    while True:
-        low = n & 127
-        n >>= 7
-        if n:
-            out.append(low | 128)
-        else:
-            out.append(low)
-            return bytes(out)
-
-
-def vector(items):
-    return number(len(items)) + b"".join(items)
-
-
-def section(id, payload):
-    return bytes([id]) + number(len(payload)) + payload
 
 
 def sized(code):

@@ -7,25 +7,7 @@ that compilers write. It is for timing the reader; the types of its code do not 
 import random
 import sys
 
-
-def number(n):
-    out = bytearray()
-    while True:
-        low = n & 127
-        n >>= 7
-        if n:
-            out.append(low | 128)
-        else:
-            out.append(low)
-            return bytes(out)
-
-
-def vector(items):
-    return number(len(items)) + b"".join(items)
-
-
-def section(id, payload):
-    return bytes([id]) + number(len(payload)) + payload
+from spelling import number, section, vector
 
 
 def instruction(random):
