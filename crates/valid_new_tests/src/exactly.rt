@@ -1,6 +1,6 @@
 // That an instruction takes operands of its types and of no others.
 
-use crate::steps::Step;
+use crate::steps::{Step, UNREACHABLE};
 use crate::world::{is_typed, is_typed_over};
 use std::alloc::{AllocError, Global};
 use valid_new::Spaces;
@@ -135,12 +135,7 @@ pub fn is_typed_somewhere(
     spaces: &Spaces<'_>,
     step: Step,
 ) -> Result<bool, AllocError> {
-    is_typed(
-        alloc,
-        spaces,
-        &[crate::steps::UNREACHABLE, step, crate::steps::UNREACHABLE],
-        &[],
-    )
+    is_typed(alloc, spaces, &[UNREACHABLE, step, UNREACHABLE], &[])
 }
 
 /// The number of the first row that is not exact.

@@ -9,6 +9,16 @@ mod exactly;
 #[cfg(test)]
 mod flat;
 #[cfg(test)]
+mod leaving;
+#[cfg(test)]
+mod nested;
+#[cfg(test)]
+mod operators;
+#[cfg(test)]
+mod refused;
+#[cfg(test)]
 mod steps;
+#[cfg(test)]
+mod unreached;
 #[cfg(test)]
 mod world;

@@ -1,7 +1,7 @@
 // Code of rows: instructions over static lists.
 
 use lane_core::operators::LaneLoad;
-use lane_core::vector::Shape;
+use lane_core::vector::{Shape, V};
 use num_core::operators::{Load, Store};
 use sqlite_items::Items;
 use std::alloc::{AllocError, Global};
@@ -186,3 +186,15 @@ pub fn code_of(alloc: Global, steps: &[Step]) -> Result<Code, AllocError> {
 }
 
 pub const UNREACHABLE: Step = Step::Plain(Plain::Unreachable);
+
+pub const I32_CONST: Step = Step::Pure(Op::I32Const(5));
+
+pub const I64_CONST: Step = Step::Pure(Op::I64Const(5));
+
+pub const V128_CONST: Step = Step::Pure(Op::V128Const(V(5)));
+
+pub const NULL_FUNC: Step = Step::Pure(Op::RefNull(Ty::Func));
+
+pub const NULL_EXTERN: Step = Step::Pure(Op::RefNull(Ty::Extern));
+
+pub const NULL_EXN: Step = Step::Pure(Op::RefNull(Ty::Exn));
