@@ -1,0 +1,24 @@
+// Tests of `valid_new` and of the rules in `typed_trees`, in a crate of their own, since a crate with tests is proved twice.
+//
+// The rows of `flat` have an instruction, what it takes and what it gives; each is tried over operands of every type.
+// `refused` has instructions that no rule types; `unreached` and `trees` try whole bodies.
+#![tactic(auto)]
+
+#[cfg(test)]
+mod exactly;
+#[cfg(test)]
+mod flat;
+#[cfg(test)]
+mod leaving;
+#[cfg(test)]
+mod nested;
+#[cfg(test)]
+mod operators;
+#[cfg(test)]
+mod refused;
+#[cfg(test)]
+mod steps;
+#[cfg(test)]
+mod unreached;
+#[cfg(test)]
+mod world;
