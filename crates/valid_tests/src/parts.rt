@@ -76,7 +76,7 @@ fn the_first_of_two_faults_is_named(rt: HostRuntime) -> Result<(), Fail> {
     let alloc = rt.alloc();
     let faults = faults::all();
     for (i, (first, wanted)) in faults.iter().enumerate() {
-        for (second, _) in &faults[i..] {
+        for (second, _) in &faults[i.min(faults.len())..] {
             assert_eq!(rt;
                 verdict_of_both(alloc, *first, *second)?,
                 *wanted,

@@ -309,6 +309,11 @@ fn steps_of(value: Value) -> (usize, [Step; 3]) {
     }
 }
 
+/// So many steps at the front.
+fn front(steps: &[Step], len: usize) -> &[Step] {
+    &steps[..len.min(steps.len())]
+}
+
 /// Puts the case into a module.
 pub fn put_case(alloc: Global, case: Case, m: &mut Module1) -> Result<(), AllocError> {
     match case {
@@ -361,7 +366,7 @@ fn put_other(alloc: Global, case: Case, m: &mut Module1) -> Result<(), AllocErro
     match case {
         Case::Global(ty, value) => {
             let (len, steps) = steps_of(value);
-            put_global(alloc, ty, false, &steps[..len.min(3)], m)
+            put_global(alloc, ty, false, front(&steps, len), m)
         }
         Case::Globals => {
             put_global(alloc, Ty1::I32, false, &[C32], m)?;
@@ -388,13 +393,13 @@ fn put_segment(alloc: Global, case: Case, m: &mut Module1) -> Result<(), AllocEr
         Case::Element(value, item) => {
             let (len, steps) = steps_of(value);
             m.tables.push(ONE)?;
-            put_element(alloc, &steps[..len.min(3)], &[0, item], m)
+            put_element(alloc, front(&steps, len), &[0, item], m)
         }
         Case::ElementAlone => put_element(alloc, &[C32], &[], m),
         Case::Data(value) => {
             let (len, steps) = steps_of(value);
             m.memories.push(ONE)?;
-            put_data(alloc, &steps[..len.min(3)], m)
+            put_data(alloc, front(&steps, len), m)
         }
         _ => put_data(alloc, &[C32], m),
     }
