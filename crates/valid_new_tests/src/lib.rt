@@ -19,6 +19,8 @@ mod refused;
 #[cfg(test)]
 mod steps;
 #[cfg(test)]
+mod trees;
+#[cfg(test)]
 mod unreached;
 #[cfg(test)]
 mod world;
