@@ -191,6 +191,7 @@ static LEFT: [TreeRow; 8] = [
             If(One(I64), &[UNREACHABLE, I64_CONST], &[I64_CONST]),
             Plain(Return),
             ADD,
+            DROP,
         ],
         &[I64],
         &[
@@ -226,7 +227,7 @@ static LEFT: [TreeRow; 8] = [
         ],
     ),
     (
-        &[NULL_EXTERN, Loop(Index(2), &[Named(Br, 0), ADD])],
+        &[NULL_EXTERN, Loop(Index(2), &[Named(Br, 0), ADD, DROP])],
         &[I64, Extern],
         &[
             Seen(Head::Pure, &[], &[Extern], &[], &[]),
