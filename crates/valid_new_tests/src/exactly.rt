@@ -9,6 +9,14 @@ use wasm_ast::module::Ty;
 /// An instruction with the types that it takes and those that it gives.
 pub type Row = (Step, &'static [Ty], &'static [Ty]);
 
+/// The same, over lists that are made.
+#[derive(Clone, Copy)]
+pub struct Tried<'a> {
+    pub step: Step,
+    pub takes: &'a [Ty],
+    pub gives: &'a [Ty],
+}
+
 static TYPES: [Ty; 8] = [
     Ty::I32,
     Ty::I64,
@@ -29,38 +37,19 @@ fn changed(alloc: Global, types: &[Ty], place: usize, ty: Ty) -> Result<Vec<Ty>,
     Ok(changed)
 }
 
-/// Whether of all types that may stand at this place among the operands only the row's own is taken.
-fn is_operand_exact(
+/// Whether of all types that may stand at this place among the operands and then the results only the row's own will do.
+fn is_place_exact(
     alloc: Global,
     spaces: &Spaces<'_>,
-    step: Step,
-    takes: &[Ty],
-    gives: &[Ty],
+    row: Tried<'_>,
     place: usize,
     own: Ty,
 ) -> Result<bool, AllocError> {
     for ty in TYPES {
-        let operands = changed(alloc, takes, place, ty)?;
-        if is_typed_over(alloc, spaces, operands.as_slice(), step, gives)? != (ty == own) {
-            return Ok(false);
-        }
-    }
-    Ok(true)
-}
-
-/// The same of the results.
-fn is_result_exact(
-    alloc: Global,
-    spaces: &Spaces<'_>,
-    step: Step,
-    takes: &[Ty],
-    gives: &[Ty],
-    place: usize,
-    own: Ty,
-) -> Result<bool, AllocError> {
-    for ty in TYPES {
-        let results = changed(alloc, gives, place, ty)?;
-        if is_typed_over(alloc, spaces, takes, step, results.as_slice())? != (ty == own) {
+        let takes = changed(alloc, row.takes, place, ty)?;
+        let gives = changed(alloc, row.gives, place.wrapping_sub(row.takes.len()), ty)?;
+        let typed = is_typed_over(alloc, spaces, takes.as_slice(), row.step, gives.as_slice())?;
+        if typed != (ty == own) {
             return Ok(false);
         }
     }
@@ -71,62 +60,48 @@ fn is_result_exact(
 pub fn takes_exactly(
     alloc: Global,
     spaces: &Spaces<'_>,
-    step: Step,
-    takes: &[Ty],
-    gives: &[Ty],
+    row: Tried<'_>,
 ) -> Result<bool, AllocError> {
-    if let Some((_, fewer)) = takes.split_first() {
-        if is_typed_over(alloc, spaces, fewer, step, gives)? {
+    for (place, own) in row.takes.iter().enumerate() {
+        if !is_place_exact(alloc, spaces, row, place, *own)? {
             return Ok(false);
         }
     }
-    for (place, own) in takes.iter().enumerate() {
-        if !is_operand_exact(alloc, spaces, step, takes, gives, place, *own)? {
+    if let Some((_, fewer)) = row.takes.split_first() {
+        if is_typed_over(alloc, spaces, fewer, row.step, row.gives)? {
             return Ok(false);
         }
     }
-    is_typed_over(alloc, spaces, takes, step, gives)
+    is_typed_over(alloc, spaces, row.takes, row.step, row.gives)
 }
 
-/// Whether it leaves the results that it gives, and not one fewer, one more or one of another type.
-fn gives_exactly(
-    alloc: Global,
-    spaces: &Spaces<'_>,
-    step: Step,
-    takes: &[Ty],
-    gives: &[Ty],
-) -> Result<bool, AllocError> {
-    let mut more = Vec::from_slice(alloc, gives)?;
+/// Whether it leaves the results that it gives, and not one fewer or one of another type.
+fn gives_exactly(alloc: Global, spaces: &Spaces<'_>, row: Tried<'_>) -> Result<bool, AllocError> {
+    for (k, own) in row.gives.iter().enumerate() {
+        let place = row.takes.len().wrapping_add(k);
+        if !is_place_exact(alloc, spaces, row, place, *own)? {
+            return Ok(false);
+        }
+    }
+    match row.gives.split_last() {
+        Some((_, fewer)) => Ok(!is_typed_over(alloc, spaces, row.takes, row.step, fewer)?),
+        None => Ok(true),
+    }
+}
+
+/// Whether it leaves one value more than it gives.
+fn gives_more(alloc: Global, spaces: &Spaces<'_>, row: Tried<'_>) -> Result<bool, AllocError> {
+    let mut more = Vec::from_slice(alloc, row.gives)?;
     more.push(Ty::I32)?;
-    if is_typed_over(alloc, spaces, takes, step, more.as_slice())? {
-        return Ok(false);
-    }
-    if let Some((_, fewer)) = gives.split_last() {
-        if is_typed_over(alloc, spaces, takes, step, fewer)? {
-            return Ok(false);
-        }
-    }
-    for (place, own) in gives.iter().enumerate() {
-        if !is_result_exact(alloc, spaces, step, takes, gives, place, *own)? {
-            return Ok(false);
-        }
-    }
-    Ok(true)
+    is_typed_over(alloc, spaces, row.takes, row.step, more.as_slice())
 }
 
 /// Whether the instruction has this type and no other.
-pub fn is_exact(
-    alloc: Global,
-    spaces: &Spaces<'_>,
-    step: Step,
-    takes: &[Ty],
-    gives: &[Ty],
-) -> Result<bool, AllocError> {
-    Ok(
-        takes_exactly(alloc, spaces, step, takes, gives)?
-            && gives_exactly(alloc, spaces, step, takes, gives)?
-            && is_typed_somewhere(alloc, spaces, step)?,
-    )
+pub fn is_exact(alloc: Global, spaces: &Spaces<'_>, row: Tried<'_>) -> Result<bool, AllocError> {
+    if !takes_exactly(alloc, spaces, row)? || !gives_exactly(alloc, spaces, row)? {
+        return Ok(false);
+    }
+    Ok(!gives_more(alloc, spaces, row)? && is_typed_somewhere(alloc, spaces, row.step)?)
 }
 
 /// Whether any operands would do: it is typed where no operand is known.
@@ -145,7 +120,12 @@ pub fn first_inexact(
     rows: &[Row],
 ) -> Result<Option<usize>, AllocError> {
     for (k, (step, takes, gives)) in rows.iter().enumerate() {
-        if !is_exact(alloc, spaces, *step, takes, gives)? {
+        let row = Tried {
+            step: *step,
+            takes,
+            gives,
+        };
+        if !is_exact(alloc, spaces, row)? {
             return Ok(Some(k));
         }
     }

@@ -42,7 +42,12 @@ static CONTROL: [Row; 7] = [
     ),
 ];
 
-static TABLES: [Row; 19] = [
+static TABLES: [Row; 24] = [
+    (Named(TableGet, 3), &[I32], &[Exn]),
+    (Named(TableSet, 3), &[I32, Exn], &[]),
+    (Named(TableGrow, 3), &[Exn, I32], &[I32]),
+    (Named(TableFill, 3), &[I32, Exn, I32], &[]),
+    (NamedTwice(TableInit, 2, 3), &[I32, I32, I32], &[]),
     (Named(GlobalGet, 0), &[], &[V128]),
     (Named(GlobalGet, 1), &[], &[I64]),
     (Named(GlobalGet, 2), &[], &[Func]),

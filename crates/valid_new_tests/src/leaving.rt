@@ -1,6 +1,6 @@
 // Instructions behind which nothing is reached.
 
-use crate::exactly::{is_typed_somewhere, takes_exactly};
+use crate::exactly::{Tried, is_typed_somewhere, takes_exactly};
 use crate::steps::Index::{Br, ReturnCall, Throw};
 use crate::steps::Pair::ReturnCallIndirect;
 use crate::steps::Plain::{Return, ThrowRef};
@@ -42,8 +42,13 @@ fn is_leaving(
     for ty in takes {
         more.push(*ty)?;
     }
+    let row = Tried {
+        step,
+        takes,
+        gives: &RESULTS,
+    };
     Ok(
-        takes_exactly(alloc, spaces, step, takes, &RESULTS)?
+        takes_exactly(alloc, spaces, row)?
             && is_typed_over(alloc, spaces, more.as_slice(), step, &RESULTS)?,
     )
 }

@@ -1,7 +1,8 @@
 // Tests of `valid_new` and of the rules in `typed_trees`, in a crate of their own, since a crate with tests is proved twice.
 //
 // The rows of `flat` have an instruction, what it takes and what it gives; each is tried over operands of every type.
-// `refused` has instructions that no rule types; `nested`, `leaving` and `unreached` try whole bodies.
+// `operators` and `nested` have more of them, `leaving` those behind which nothing is reached, and `refused` instructions
+// that no rule types. `unreached` and `trees` try whole bodies.
 #![tactic(auto)]
 
 #[cfg(test)]
@@ -18,6 +19,8 @@ mod operators;
 mod refused;
 #[cfg(test)]
 mod steps;
+#[cfg(test)]
+mod trees;
 #[cfg(test)]
 mod unreached;
 #[cfg(test)]

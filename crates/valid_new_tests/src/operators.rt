@@ -1,6 +1,6 @@
 // Operators, and loads and stores at each alignment.
 
-use crate::exactly::{Row, first_inexact, first_typed, is_exact, is_typed_somewhere};
+use crate::exactly::{Row, Tried, first_inexact, first_typed, is_exact, is_typed_somewhere};
 use crate::steps::Access::{Load, LoadLane, LoadVector, Store, StoreLane, StoreVector};
 use crate::steps::Step::{Access, Pure};
 use crate::steps::{self, Step};
@@ -198,13 +198,12 @@ fn is_access_exact(
         takes.push(*ty)?;
     }
     for align in 0..=natural {
-        if !is_exact(
-            alloc,
-            spaces,
-            at(access, memory, align, 8),
-            takes.as_slice(),
+        let row = Tried {
+            step: at(access, memory, align, 8),
+            takes: takes.as_slice(),
             gives,
-        )? {
+        };
+        if !is_exact(alloc, spaces, row)? {
             return Ok(false);
         }
     }
@@ -216,19 +215,27 @@ fn is_access_exact(
     Ok(true)
 }
 
+/// A memory, an offset, and whether an access there is typed.
+static OFFSETS: [(u32, u64, bool); 5] = [
+    (0, 0xFFFF_FFFF, true),
+    (0, 0x1_0000_0000, false),
+    (1, 0x1_0000_0000, true),
+    (1, u64::MAX, true),
+    (2, 0, false),
+];
+
 /// Whether the access is typed just where its memory is there and its offset an address of the memory.
 fn is_offset_exact(
     alloc: Global,
     spaces: &Spaces<'_>,
     access: steps::Access,
 ) -> Result<bool, AllocError> {
-    Ok(
-        is_typed_somewhere(alloc, spaces, at(access, 0, 0, 0xFFFF_FFFF))?
-            && !is_typed_somewhere(alloc, spaces, at(access, 0, 0, 0x1_0000_0000))?
-            && is_typed_somewhere(alloc, spaces, at(access, 1, 0, 0x1_0000_0000))?
-            && is_typed_somewhere(alloc, spaces, at(access, 1, 0, u64::MAX))?
-            && !is_typed_somewhere(alloc, spaces, at(access, 2, 0, 0))?,
-    )
+    for (memory, offset, typed) in OFFSETS {
+        if is_typed_somewhere(alloc, spaces, at(access, memory, 0, offset))? != typed {
+            return Ok(false);
+        }
+    }
+    Ok(true)
 }
 
 /// The number of the first access that is not exact.

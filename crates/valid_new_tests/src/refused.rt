@@ -28,26 +28,26 @@ static OUT_OF_RANGE: [Step; 44] = [
     BrTable(&[0], 1),
     Named(Call, 5),
     NamedTwice(CallIndirect, 6, 0),
-    NamedTwice(CallIndirect, 0, 3),
+    NamedTwice(CallIndirect, 0, 4),
     Named(ReturnCall, 5),
     NamedTwice(ReturnCallIndirect, 6, 0),
-    NamedTwice(ReturnCallIndirect, 0, 3),
+    NamedTwice(ReturnCallIndirect, 0, 4),
     Named(Throw, 2),
     Named(LocalGet, 2),
     Named(LocalSet, 2),
     Named(LocalTee, 2),
     Named(GlobalGet, 3),
     Named(GlobalSet, 3),
-    Named(TableGet, 3),
-    Named(TableSet, 3),
-    Named(TableSize, 3),
-    Named(TableGrow, 3),
-    Named(TableFill, 3),
-    NamedTwice(TableCopy, 3, 0),
-    NamedTwice(TableCopy, 0, 3),
-    NamedTwice(TableInit, 2, 0),
-    NamedTwice(TableInit, 0, 3),
-    Named(ElemDrop, 2),
+    Named(TableGet, 4),
+    Named(TableSet, 4),
+    Named(TableSize, 4),
+    Named(TableGrow, 4),
+    Named(TableFill, 4),
+    NamedTwice(TableCopy, 4, 0),
+    NamedTwice(TableCopy, 0, 4),
+    NamedTwice(TableInit, 3, 0),
+    NamedTwice(TableInit, 0, 4),
+    Named(ElemDrop, 3),
     Named(MemorySize, 2),
     Named(MemoryGrow, 2),
     Named(MemoryFill, 2),
@@ -69,7 +69,14 @@ static OUT_OF_RANGE: [Step; 44] = [
 ];
 
 /// Tables of other references, constants that are set, functions that are not declared, results that differ.
-static OF_ANOTHER_KIND: [Step; 18] = [
+static OF_ANOTHER_KIND: [Step; 25] = [
+    NamedTwice(CallIndirect, 0, 3),
+    NamedTwice(ReturnCallIndirect, 0, 3),
+    NamedTwice(TableCopy, 0, 3),
+    NamedTwice(TableCopy, 3, 0),
+    NamedTwice(TableCopy, 3, 1),
+    NamedTwice(TableInit, 2, 0),
+    NamedTwice(TableInit, 2, 1),
     NamedTwice(CallIndirect, 0, 1),
     NamedTwice(ReturnCallIndirect, 0, 1),
     Named(ReturnCall, 0),
@@ -92,8 +99,9 @@ static OF_ANOTHER_KIND: [Step; 18] = [
 ];
 
 /// Floats, as types and as instructions.
-static FLOATS: [Step; 12] = [
+static FLOATS: [Step; 13] = [
     Pure(Op::RefNull(Ty::F32)),
+    Pure(Op::RefNull(Ty::F64)),
     SelectTyped(&[Ty::F32]),
     SelectTyped(&[Ty::F64]),
     Block(One(Ty::F32), &[UNREACHABLE]),

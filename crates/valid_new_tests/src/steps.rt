@@ -61,7 +61,7 @@ pub enum Index {
     DataDrop,
 }
 
-/// An instruction with two indices, in the order of the binary format of 3.0 but for that of `Instr`.
+/// An instruction with two indices, in the order that `Instr` has them.
 #[derive(Clone, Copy)]
 pub enum Pair {
     CallIndirect,
@@ -185,6 +185,7 @@ pub fn code_of(alloc: Global, steps: &[Step]) -> Result<Code, AllocError> {
     Ok(code)
 }
 
+/// Instructions without operands, of which rows are made.
 pub const UNREACHABLE: Step = Step::Plain(Plain::Unreachable);
 
 pub const I32_CONST: Step = Step::Pure(Op::I32Const(5));

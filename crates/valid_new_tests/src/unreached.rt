@@ -70,7 +70,26 @@ static KINDS: [BodyRow; 27] = [
 ];
 
 /// Operands of any type behind what leaves.
-static BEHIND: [BodyRow; 24] = [
+static BEHIND: [BodyRow; 30] = [
+    // the results of a tail call are those of the function
+    (&[UNREACHABLE, Named(ReturnCall, 0)], &[V128], true),
+    (&[UNREACHABLE, Named(ReturnCall, 0)], &[I64], false),
+    (&[UNREACHABLE, Named(ReturnCall, 0)], &[V128, V128], false),
+    (
+        &[UNREACHABLE, NamedTwice(ReturnCallIndirect, 1, 0)],
+        &[V128],
+        true,
+    ),
+    (
+        &[UNREACHABLE, NamedTwice(ReturnCallIndirect, 1, 0)],
+        &[I64],
+        false,
+    ),
+    (
+        &[UNREACHABLE, NamedTwice(ReturnCallIndirect, 1, 0)],
+        &[V128, V128],
+        false,
+    ),
     (&[UNREACHABLE, ADD], &[I32], true),
     (&[UNREACHABLE, I32_CONST, ADD], &[I32], true),
     (&[UNREACHABLE, I64_CONST, I32_CONST, ADD], &[I32], false),

@@ -4,6 +4,7 @@ use crate::steps::{Step, code_of, instr_of, types_of};
 use num_core::lists::{Bytes, Text};
 use sqlite_items::Items;
 use std::alloc::{AllocError, Global};
+use typed_trees::TypedFn;
 use valid_new::{Spaces, annotate_body};
 use wasm_ast::module;
 use wasm_ast::module::{
@@ -128,6 +129,7 @@ fn put_parts(alloc: Global, m: &mut Module) -> Result<(), AllocError> {
     m.funcs = Items::from_slice(alloc, &FUNCS)?;
     put_table(Ty::Extern, None, m)?;
     put_table(Ty::Func, Some(ref_func(alloc, 3)?), m)?;
+    put_table(Ty::Exn, None, m)?;
     m.memories.push(WIDE)?;
     m.tags.push(0)?;
     put_global(Ty::I64, true, one(alloc, Instr::Pure(Op::I64Const(0)))?, m)?;
@@ -140,15 +142,17 @@ fn put_parts(alloc: Global, m: &mut Module) -> Result<(), AllocError> {
     put_element(alloc, Ty::Func, ref_func(alloc, 2)?, m)?;
     let null = one(alloc, Instr::Pure(Op::RefNull(Ty::Extern)))?;
     put_element(alloc, Ty::Extern, null, m)?;
+    let null = one(alloc, Instr::Pure(Op::RefNull(Ty::Exn)))?;
+    put_element(alloc, Ty::Exn, null, m)?;
     m.datas.push(Segment {
         mode: Mode::Passive,
         bytes: Bytes::new(alloc),
     })
 }
 
-/// The module: functions 0 to 4, tables 0 and 2 of functions and 1 of externrefs, memory 0 with addresses of 32 bits and 1
-/// with 64, globals 0 to 2 of which 1 is mutable, tags 0 and 1, element segments 0 of functions and 1 of externrefs, and
-/// data segment 0.
+/// The module: functions 0 to 4, tables 0 and 2 of functions, 1 of externrefs and 3 of exnrefs, memory 0 with addresses of
+/// 32 bits and 1 with 64, globals 0 to 2 of which 1 is mutable, tags 0 and 1, element segments 0 of functions, 1 of
+/// externrefs and 2 of exnrefs, and data segment 0.
 pub fn world(alloc: Global) -> Result<Module, AllocError> {
     let mut m = nothing(alloc);
     put_types(alloc, &mut m)?;
@@ -156,7 +160,28 @@ pub fn world(alloc: Global) -> Result<Module, AllocError> {
     Ok(m)
 }
 
-/// Whether a body with these declared locals and this code leaves values of these types.
+/// The type of a function with these results.
+fn type_of(alloc: Global, results: &[Ty]) -> Result<FuncType, AllocError> {
+    Ok(FuncType {
+        params: types_of(alloc, &PARAMS)?,
+        results: types_of(alloc, results)?,
+    })
+}
+
+/// The nodes of a body with these declared locals and this code, where it is typed and leaves values of these types.
+pub fn annotated(
+    alloc: Global,
+    spaces: &Spaces<'_>,
+    locals: &[Ty],
+    code: Code,
+    results: &[Ty],
+) -> Result<Option<TypedFn>, AllocError> {
+    let locals = types_of(alloc, locals)?;
+    let ty = type_of(alloc, results)?;
+    annotate_body(alloc, spaces, &ty, &Body { locals, code })
+}
+
+/// Whether such a body is typed.
 pub fn is_typed_body(
     alloc: Global,
     spaces: &Spaces<'_>,
@@ -164,15 +189,7 @@ pub fn is_typed_body(
     code: Code,
     results: &[Ty],
 ) -> Result<bool, AllocError> {
-    let ty = FuncType {
-        params: types_of(alloc, &PARAMS)?,
-        results: types_of(alloc, results)?,
-    };
-    let body = Body {
-        locals: types_of(alloc, locals)?,
-        code,
-    };
-    Ok(annotate_body(alloc, spaces, &ty, &body)?.is_some())
+    Ok(annotated(alloc, spaces, locals, code, results)?.is_some())
 }
 
 /// Whether the code is typed in a function without locals of its own that gives these results.
