@@ -251,75 +251,6 @@ fn a_module_with_each_part_is_read(rt: HostRuntime) -> Result<(), Fail> {
     Ok(())
 }
 
-/// What a file has many of.
-#[derive(Clone, Copy)]
-enum Many {
-    /// Function types.
-    Types,
-    /// Parameters of one function type.
-    Parameters,
-    /// Locals of one function.
-    Locals,
-    /// Blocks in one another.
-    Blocks,
-}
-
-/// A file with so many of them.
-fn file_with_many(alloc: Global, what: Many, count: u32) -> Result<Bytes, AllocError> {
-    match what {
-        Many::Types => with_types(alloc, count),
-        Many::Parameters => with_parameters(alloc, count),
-        Many::Locals => with_locals(alloc, count),
-        Many::Blocks => nested(alloc, count),
-    }
-}
-
-fn with_types(alloc: Global, count: u32) -> Result<Bytes, AllocError> {
-    let mut section = Bytes::new(alloc);
-    put_u32(&mut section, count)?;
-    for _ in 0..count {
-        section.extend_from_slice(&[0x60, 0x00, 0x00])?;
-    }
-    type_section(alloc, &section)
-}
-
-fn with_parameters(alloc: Global, count: u32) -> Result<Bytes, AllocError> {
-    let mut section = Bytes::from_slice(alloc, &[0x01, 0x60])?;
-    put_u32(&mut section, count)?;
-    for _ in 0..count {
-        section.push(0x7F)?;
-    }
-    section.push(0x00)?;
-    type_section(alloc, &section)
-}
-
-/// A file with this type section alone.
-fn type_section(alloc: Global, section: &Bytes) -> Result<Bytes, AllocError> {
-    let mut file = Bytes::from_slice(alloc, b"\0asm\x01\0\0\0\x01")?;
-    append(&mut file, section)?;
-    Ok(file)
-}
-
-fn with_locals(alloc: Global, count: u32) -> Result<Bytes, AllocError> {
-    let mut body = Bytes::from_slice(alloc, &[0x01])?;
-    put_u32(&mut body, count)?;
-    body.extend_from_slice(&[0x7F, 0x0B])?;
-    file_of(alloc, &body)
-}
-
-/// A file with one function, whose body has so many blocks in one another.
-fn nested(alloc: Global, depth: u32) -> Result<Bytes, AllocError> {
-    let mut body = Bytes::from_slice(alloc, &[0x00])?;
-    for _ in 0..depth {
-        body.extend_from_slice(&[0x02, 0x40])?;
-    }
-    for _ in 0..depth {
-        body.push(0x0B)?;
-    }
-    body.push(0x0B)?;
-    file_of(alloc, &body)
-}
-
 /// A file with one function of type [] -> [] with this body.
 fn file_of(alloc: Global, body: &Bytes) -> Result<Bytes, AllocError> {
     let mut section = Bytes::from_slice(alloc, &[0x01])?;
@@ -392,29 +323,6 @@ fn the_first_fault_of_a_file(rt: HostRuntime) -> Result<(), Fail> {
     assert!(rt; outcome_of(rt.alloc(), b"\0asm\x02\0\0\0")? == Outcome::Frame);
     for (what, sections, expected) in &FAULTS {
         assert!(rt; comes_to(rt.alloc(), sections, *expected)?, "{what}");
-    }
-    Ok(())
-}
-
-static LIMITS: [(Many, u32, Outcome); 8] = [
-    (Many::Types, 300_000, Outcome::Read),
-    (Many::Types, 300_001, Outcome::Limit(Kind::Types)),
-    (Many::Parameters, 2_000, Outcome::Read),
-    (Many::Parameters, 2_001, Outcome::Limit(Kind::Parameters)),
-    (Many::Locals, 1_000_000, Outcome::Read),
-    (Many::Locals, 1_000_001, Outcome::Limit(Kind::Locals)),
-    (Many::Blocks, 2_500, Outcome::Read),
-    (Many::Blocks, 2_501, Outcome::Limit(Kind::Nesting)),
-];
-
-#[test]
-fn so_many_and_no_more(rt: HostRuntime) -> Result<(), Fail> {
-    for (what, count, expected) in &LIMITS {
-        let file = file_with_many(rt.alloc(), *what, *count)?;
-        assert!(rt;
-            outcome_of(rt.alloc(), file.as_slice())? == *expected,
-            "{count}"
-        );
     }
     Ok(())
 }

@@ -10,6 +10,8 @@ mod forms;
 #[cfg(test)]
 mod frame;
 #[cfg(test)]
+mod limits;
+#[cfg(test)]
 mod nested;
 #[cfg(test)]
 mod opcodes;

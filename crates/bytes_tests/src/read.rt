@@ -320,28 +320,9 @@ fn repeated_is(
 }
 
 #[test]
-fn limits_and_one_past(rt: HostRuntime) -> Result<(), Fail> {
-    type Pieces = (&'static [u8], &'static [u8], u32, &'static [u8]);
-    let rows: [(Pieces, Outcome); 3] = [
-        ((b"\x05\xC9\x01\x64", b"\x00\x00", 100, b""), Outcome::Read),
-        (
-            (b"\x05\xCB\x01\x65", b"\x00\x00", 101, b""),
-            Outcome::Limit(Kind::Memories),
-        ),
-        (
-            (b"\x01\xEE\x07\x01\x60\xE9\x07", b"\x7F", 1001, b"\x00"),
-            Outcome::Limit(Kind::Parameters),
-        ),
-    ];
-    for (pieces, expected) in rows {
-        assert!(rt; repeated_is(rt.alloc(), pieces, expected)?);
-    }
+fn locals_behind_the_end_are_no_body(rt: HostRuntime) -> Result<(), Fail> {
     let behind = b"\x03\x02\x01\x00\x0A\x09\x01\x07\x01\xD1\x86\x03\x7F\x0B\x0B";
-    let locals = b"\x03\x02\x01\x00\x0A\x08\x01\x06\x01\xD1\x86\x03\x7F\x0B";
-    let rows: [(&str, &[u8], Outcome); 2] = [
-        ("locals behind the end", behind, Outcome::Body(0)),
-        ("locals", locals, Outcome::Limit(Kind::Locals)),
-    ];
+    let rows: [(&str, &[u8], Outcome); 1] = [("locals behind the end", behind, Outcome::Body(0))];
     check(&rt, &rows)
 }
 
