@@ -8,4 +8,3 @@ pub mod Measures
 pub mod Occurrences
 pub mod Steps
 pub mod Walks
-pub mod Writing

@@ -32,12 +32,6 @@ module _ {I H : Type 0} (has_arms : H → Bool) (build : H → List I → List I
       none : Flats [] []
       more : {i : I} {code : List I} {ks ls all : List (Token I H)} → all ≡ ks ++ ls → Flat i ks → Flats code ls → Flats (i ∷ code) all
 
--- the bytes spell the code without an end behind it
-pub record Spelled {I H : Type 0} (token : Form (Token I H)) (has_arms : H → Bool) (build : H → List I → List I → I) (b : List ℕ) (code : List I) : Type 0 where
-  pub tokens : List (Token I H)
-  pub flat : Flats has_arms build code tokens
-  pub bytes : Tokens token b tokens
-
 -- what a token does to code that is being read: it was the last one, or reading goes on, or it may not stand here
 pub data Turn (I H : Type 0) : Type 0 where
   Whole : List I → Turn I H
