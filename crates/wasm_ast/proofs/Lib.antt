@@ -5,3 +5,4 @@ pub mod Pairs
 pub mod Held
 pub mod Used
 pub mod Exnref
+pub mod Noting

@@ -17,7 +17,7 @@ use Rattle.wasm_ast.specs.declared.folding.folded.Folded.{Folded}
 use Rattle.wasm_ast.specs.declared.folding.folded.Folded.TheVariants.{I32, I64, Imported}
 use Rattle.wasm_ast.specs.Occurrence.{Head, head_of}
 use Rattle.wasm_ast.specs.Spaces.{global_import}
-use Rattle.wasm_ast.specs.Types.{type_code}
+use Rattle.wasm_ast.specs.Types.{same_type}
 
 -- the type of the value
 abbrev pub folded_type : Folded → Ty
@@ -70,7 +70,7 @@ fold_of known code = option_and_then only (after_code known code [])
 
 -- a global of another type than its initial value does not fold
 abbrev pub of_type : Ty → Option Folded → Option Folded
-of_type t (Some v) = if nat_eq (type_code t) (type_code (folded_type v)) then Some v else None
+of_type t (Some v) = if same_type t (folded_type v) then Some v else None
 of_type t None = None
 
 -- an imported global folds to itself

@@ -12,3 +12,6 @@ pub mod Fold
 pub mod Kept
 pub mod Marking
 pub mod Has
+pub mod Facts
+pub mod Region
+pub mod Outside

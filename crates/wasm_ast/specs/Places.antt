@@ -26,12 +26,16 @@ in_element p e = in_offset p e.mode || list_any (some_in p) e.items
 abbrev pub in_table : (Head → Bool) → Table → Bool
 in_table p t = some_in p (unwrap_or t.init [])
 
+-- in the bodies of the functions
+abbrev pub in_bodies : (Head → Bool) → Module → Bool
+in_bodies p m = list_any (λ b. some_in p b.code) m.codes
+
 -- in the bodies and the other expressions of the module, outside element segments
 abbrev pub outside_elements : (Head → Bool) → Module → Bool
 outside_elements p m =
     list_any (in_table p) m.tables
     || list_any (λ g. some_in p g.init) m.globals
-    || list_any (λ b. some_in p b.code) m.codes
+    || in_bodies p m
     || list_any (λ s. in_offset p s.mode) m.datas
 
 abbrev pub anywhere : (Head → Bool) → Module → Bool

@@ -15,6 +15,10 @@ global_import (Global t mutable) = Some t
 global_import _ = None
 
 -- the kinds of imports
+abbrev pub is_func : ImportDesc → Bool
+is_func (Func t) = true
+is_func _ = false
+
 abbrev pub is_table : ImportDesc → Bool
 is_table (Table t limits) = true
 is_table _ = false
@@ -42,7 +46,10 @@ global_types m = filter_map (λ i. global_import i.desc) m.imports ++ map (λ g.
 abbrev pub imported : (ImportDesc → Bool) → Module → ℕ
 imported kind m = count_by (λ i. kind i.desc) m.imports
 
--- how many tables and memories there are
+-- how many functions, tables and memories there are
+abbrev pub func_count : Module → ℕ
+func_count m = imported is_func m + length m.funcs
+
 abbrev pub table_count : Module → ℕ
 table_count m = imported is_table m + length m.tables
 

@@ -12,6 +12,8 @@ mod places;
 mod presence;
 mod types;
 
+pub use instructions::Shows;
 pub use kind::Feature;
-pub use places::{anywhere, outside_elements};
-pub use presence::has;
+pub use parts::{has_passive, has_table, has_two_memories};
+pub use places::{anywhere_given, outside_elements_given};
+pub use presence::{has, has_given};

@@ -1,6 +1,7 @@
 // The table that is kept: the single table of a module, where only indirect calls and active segments use it.
 
 ghost use Rattle.std.specs.Prelude.{◌≡◌, false, length, replicate, IfOk};
+ghost use Rattle.wasm_ast.specs.Facts.{facts_of};
 ghost use Rattle.wasm_ast.specs.Kept.{are_told_apart, keeps_table, used_indices};
 ghost use Rattle.wasm_ast.specs.Marking.{marked};
 
@@ -10,12 +11,14 @@ mod keys;
 mod placed;
 mod used;
 
-use crate::features::anywhere;
+use crate::facts::{Facts, facts_of};
+use crate::features::anywhere_given;
 use crate::folding::known_globals;
 use crate::module::Module;
 use crate::spaces::func_indices;
 use agreement::all_agree;
-use conditions::{UsesTable, are_plain_elements, export_table, has_one_plain_table};
+pub use conditions::UsesTable;
+use conditions::{are_plain_elements, export_table, has_one_plain_table};
 use keys::marked_keys;
 use placed::mark_placed;
 use std::alloc::{AllocError, Global};
@@ -27,7 +30,18 @@ use used::mark_module;
 pub fn keeps_table(alloc: Global, m: &Module) -> Result<bool, AllocError>
     ensures { IfOk result (λ yes. yes ≡ keeps_table m.now) }
 {
-    if !has_one_plain_table(m) || anywhere(&UsesTable, m) || export_table(m.exports.as_slice()) {
+    keeps_table_given(alloc, m, &facts_of(m))
+}
+
+/// The same, where it is known what the bodies of the module show.
+pub fn keeps_table_given(alloc: Global, m: &Module, facts: &Facts) -> Result<bool, AllocError>
+    requires { facts.now ≡ facts_of m.now }
+    ensures { IfOk result (λ yes. yes ≡ keeps_table m.now) }
+{
+    if !has_one_plain_table(m)
+        || anywhere_given(facts.table_use, &UsesTable, m)
+        || export_table(m.exports.as_slice())
+    {
         return Ok(false);
     }
     let known = known_globals(alloc, m)?;

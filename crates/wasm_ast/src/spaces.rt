@@ -1,7 +1,7 @@
 // The index spaces of a module: the imports of a kind come first (the standard's "Modules", indices).
 
 ghost use Rattle.std.specs.Prelude.{◌≡◌, filter_map, count_by, IfOk};
-ghost use Rattle.wasm_ast.specs.Spaces.{func_import, global_import, func_indices, global_types, imported, is_table, is_memory, is_global, is_tag};
+ghost use Rattle.wasm_ast.specs.Spaces.{func_import, global_import, func_indices, global_types, imported, is_func, is_table, is_memory, is_global};
 
 use crate::module::{Import, ImportDesc, Module, Ty};
 use sqlite_items::Items;
@@ -65,6 +65,17 @@ pub fn global_types(alloc: Global, m: &Module) -> Result<Items<Ty>, AllocError>
         types.push(global.ty)?;
     }
     Ok(Items::from_vec(types))
+}
+
+/// How many functions are imported.
+pub fn imported_func_count(m: &Module) -> usize
+    ensures { result ≡ imported is_func m.now }
+{
+    m.imports
+        .as_slice()
+        .iter()
+        .filter(|i| matches!(i.desc, ImportDesc::Func(_)))
+        .count()
 }
 
 /// How many tables are imported.

@@ -3,9 +3,9 @@
 ghost use Rattle.std.specs.Prelude.{◌≡◌};
 ghost use Rattle.std.specs.List.{list_any};
 ghost use Rattle.wasm_ast.specs.Occurrence.{some_in};
-ghost use Rattle.wasm_ast.specs.Places.{in_offset, in_element, in_table, outside_elements, anywhere};
+ghost use Rattle.wasm_ast.specs.Places.{in_offset, in_element, in_table, in_bodies, outside_elements, anywhere};
 
-use crate::module::{Body, Code, Element, Global, Mode, Module, Segment, Table};
+use crate::module::{Code, Element, Global, Mode, Module, Segment, Table};
 use crate::occurrence::{InstrTest, occurs_in};
 
 /// Whether an instruction that passes stands in the offset of an active segment.
@@ -58,15 +58,6 @@ fn in_globals<T: InstrTest>(test: &T, globals: &[Global]) -> bool
         .any(|global| occurs_in(test, global.init.as_slice()))
 }
 
-/// Whether an instruction that passes stands in one of the bodies.
-fn in_bodies<T: InstrTest>(test: &T, bodies: &[Body]) -> bool
-    ensures { result ≡ list_any (λ b. some_in (T.test test.now) b.code) bodies.now }
-{
-    bodies
-        .iter()
-        .any(|body| occurs_in(test, body.code.as_slice()))
-}
-
 /// Whether an instruction that passes stands in the offset of one of the data segments.
 fn in_datas<T: InstrTest>(test: &T, datas: &[Segment]) -> bool
     ensures { result ≡ list_any (λ s. in_offset (T.test test.now) s.mode) datas.now }
@@ -81,19 +72,24 @@ fn in_elements<T: InstrTest>(test: &T, elements: &[Element]) -> bool
     elements.iter().any(|element| in_element(test, element))
 }
 
-/// Whether an instruction that passes stands in the module outside element segments.
-pub fn outside_elements<T: InstrTest>(test: &T, m: &Module) -> bool
+/// Whether an instruction that passes stands in the module outside element segments, where it is known whether one
+/// stands in the bodies.
+#[tactic(auto, using(crate::proofs::Noting::or_placed))]
+pub fn outside_elements_given<T: InstrTest>(shown: bool, test: &T, m: &Module) -> bool
+    requires { shown ≡ in_bodies (T.test test.now) m.now }
     ensures { result ≡ outside_elements (T.test test.now) m.now }
 {
-    in_tables(test, m.tables.as_slice())
+    shown
+        || in_tables(test, m.tables.as_slice())
         || in_globals(test, m.globals.as_slice())
-        || in_bodies(test, m.codes.as_slice())
         || in_datas(test, m.datas.as_slice())
 }
 
-/// Whether an instruction that passes stands anywhere in the module.
-pub fn anywhere<T: InstrTest>(test: &T, m: &Module) -> bool
+/// Whether an instruction that passes stands anywhere in the module, where it is known whether one stands in the
+/// bodies.
+pub fn anywhere_given<T: InstrTest>(shown: bool, test: &T, m: &Module) -> bool
+    requires { shown ≡ in_bodies (T.test test.now) m.now }
     ensures { result ≡ anywhere (T.test test.now) m.now }
 {
-    outside_elements(test, m) || in_elements(test, m.elems.as_slice())
+    outside_elements_given(shown, test, m) || in_elements(test, m.elems.as_slice())
 }

@@ -3,7 +3,7 @@ ghost use Rattle.wasm_ast.specs.Fold.{of_type, known_imports, known_globals};
 
 use super::expressions::fold_of;
 use super::folded::{Folded, folded_type};
-use crate::module::{Module, Ty, type_code};
+use crate::module::{Module, Ty};
 use crate::spaces::imported_global_types;
 use sqlite_items::Items;
 use std::alloc::{AllocError, Global};
@@ -37,7 +37,7 @@ fn of_type(ty: Ty, folded: Option<Folded>) -> Option<Folded>
     ensures { result ≡ of_type ty folded }
 {
     match folded {
-        Some(value) if type_code(ty) == type_code(folded_type(value)) => Some(value),
+        Some(value) if ty == folded_type(value) => Some(value),
         _ => None,
     }
 }
