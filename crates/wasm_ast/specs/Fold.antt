@@ -1,5 +1,5 @@
 -- Constant expressions that fold: to one integer, or to an imported global.
-use Rattle.std.specs.Prelude.{ℕ, Bool, true, false, List, [], ◌∷◌, ◌++◌, map, nat_eq, Option, Some, None, option_map, option_and_then, unwrap_or, slice_get, filter_map, if◌then◌else◌}
+use Rattle.std.specs.Prelude.{ℕ, Bool, true, false, List, [], ◌∷◌, ◌++◌, map, Option, Some, None, option_map, option_and_then, unwrap_or, slice_get, filter_map, if◌then◌else◌}
 use Rattle.std.specs.List.{enumerate_from}
 use Rattle.num_core.specs.declared.operators.Width.{Width}
 use Rattle.num_core.specs.declared.operators.Width.TheVariants.{W32, W64}
