@@ -1,13 +1,12 @@
 -- What a typed tree stands for is typed code.
-use Rattle.std.proofs.Common.{◌≡◌, ◌⊎◌, Bool, true, false, List, [], ◌∷◌, ◌++◌, map, Option, Some, None, refl, ap, sym, ◌∙◌, subst}
+use Rattle.std.proofs.Common.{◌≡◌, true, List, [], ◌∷◌, ◌++◌, Option, Some, None, refl, ap, sym, ◌∙◌, subst}
 use Rattle.wasm_ast.specs.declared.module.ty.Ty.{Ty}
 use Rattle.wasm_ast.specs.declared.module.ty.Ty.TheVariants as types
-use Rattle.wasm_ast.specs.declared.module.code.Instr.{Instr, out-Instr, roll-Instr, out-roll-Instr, roll-out-Instr}
-use Rattle.wasm_ast.specs.declared.module.code.Instr.TheOpen.{Instr-F}
+use Rattle.wasm_ast.specs.declared.module.code.Instr.{Instr, out-Instr, roll-Instr, out-roll-Instr}
+use Rattle.typed_trees.specs.declared.node.Bodies.{Bodies}
 use Rattle.typed_trees.specs.declared.node.Node.{Node, out-Node}
-use Rattle.typed_trees.specs.declared.node.Node.TheOpen.{Node-F}
-use Rattle.typed_trees.specs.declared.node.Node.TheFolds.{fold-Node, fold_out-Node}
-use Rattle.typing_kit.specs.Form.{Form, Block, Choice}
+use Rattle.typed_trees.specs.declared.node.Node.TheFolds.{fold_out-Node, map-Node}
+use Rattle.typing_kit.specs.Form.{Block, Choice}
 use Rattle.typing_kit.specs.Leaf.{FitsLeaf}
 use Rattle.typing_kit.specs.Matching.{known, AllMatch}
 use Rattle.typing_kit.specs.declared.operand.Operand.{Operand}
@@ -16,15 +15,27 @@ use Rattle.typing_kit.specs.Typing.{Typed, TypedCode}
 use Rattle.typed_trees.specs.Contexts.{Context}
 use Rattle.typed_trees.specs.Forms.{InstrForm, form, layer_form, language}
 use Rattle.typed_trees.specs.Matching.{matches}
-use Rattle.typed_trees.specs.Trees.{with_bodies, erase, erase_layer, erased, leaves, EndsAs, TypedNode, TypedNodes, plain, block, choice, none, more, last, head_of, takes_of, gives_of, first_of, second_of}
+use Rattle.typed_trees.specs.Trees.{with_bodies, first_held, second_held, erase, erase_layer, erased, leaves, EndsAs, TypedNode, TypedNodes, plain, block, choice, none, more, last, head_of, takes_of, gives_of, first_of, second_of}
 use Rattle.typed_trees.proofs.LeafTyped.{known_append, typed_leaf, typed_leaving, IsLeaving}
 use Rattle.typed_trees.proofs.Lawfulness.{matches_self}
 use Rattle.typed_trees.proofs.Leaving.{leaving_layer}
 use Rattle.typed_trees.proofs.Refilled.{refill, refilled}
 
+-- the code that a node holds, each node by itself
+first_mapped : (head : Instr) (types : List Ty × List Ty) (bodies : Option (Bodies Node)) → first_held (map-Node Node Instr erase (record { head = head; types = types; bodies = bodies })).bodies ≡ erased (first_held bodies)
+first_mapped head types None = refl
+first_mapped head types (Some bodies) = refl
+
+second_mapped : (head : Instr) (types : List Ty × List Ty) (bodies : Option (Bodies Node)) → second_held (map-Node Node Instr erase (record { head = head; types = types; bodies = bodies })).bodies ≡ erased (second_held bodies)
+second_mapped head types None = refl
+second_mapped head types (Some bodies) = refl
+
 -- one layer of what a node stands for
 pub erase_out : (n : Node) → erase n ≡ roll-Instr (with_bodies (out-Instr (head_of n)) (erased (first_of n)) (erased (second_of n)))
-erase_out n = fold_out-Node Instr erase_layer n
+erase_out n =
+    fold_out-Node Instr erase_layer n
+    ∙ ap (λ l. roll-Instr (with_bodies (out-Instr (head_of n)) l (second_held (map-Node Node Instr erase (out-Node n)).bodies))) (first_mapped (out-Node n).head (out-Node n).types (out-Node n).bodies)
+    ∙ ap (λ l. roll-Instr (with_bodies (out-Instr (head_of n)) (erased (first_of n)) l)) (second_mapped (out-Node n).head (out-Node n).types (out-Node n).bodies)
 
 pub form_erased : (c : Context) (ls : List (List Ty)) (n : Node) → form c ls (erase n) ≡ refill (form c ls (head_of n)) (erased (first_of n)) (erased (second_of n))
 form_erased c ls n =

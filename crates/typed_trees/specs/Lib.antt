@@ -4,5 +4,6 @@ pub mod Operands
 pub mod Forms
 pub mod Constants
 pub mod Modules
+pub mod Signatures
 pub mod Trees
 pub mod Typed

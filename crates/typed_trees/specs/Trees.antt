@@ -8,6 +8,7 @@ use Rattle.wasm_ast.specs.declared.module.code.Instr.TheOpen.{Instr-F}
 use Rattle.wasm_ast.specs.declared.module.code.Instr.TheFolds.{fold-Instr}
 use Rattle.typing_kit.specs.Form.{Block, Choice}
 use Rattle.typing_kit.specs.Leaf.{FitsLeaf}
+use Rattle.typed_trees.specs.declared.node.Bodies.{Bodies}
 use Rattle.typed_trees.specs.declared.node.Node.{Node, out-Node}
 use Rattle.typed_trees.specs.declared.node.Node.TheOpen.{Node-F}
 use Rattle.typed_trees.specs.declared.node.Node.TheFolds.{fold-Node}
@@ -68,9 +69,18 @@ reachable = fold-Instr Instr cut_bodies
 abbrev pub reachable_code : List Instr → List Instr
 reachable_code code = cut (map reachable code)
 
+-- the code that a node holds, if any
+abbrev pub first_held : {A : Type 0} → Option (Bodies A) → List A
+first_held None = []
+first_held (Some bodies) = bodies.first
+
+abbrev pub second_held : {A : Type 0} → Option (Bodies A) → List A
+second_held None = []
+second_held (Some bodies) = bodies.second
+
 -- the code that nodes stand for: they without their types
 abbrev pub erase_layer : Node-F Instr → Instr
-erase_layer n = roll-Instr (with_bodies (out-Instr n.head) n.first n.second)
+erase_layer n = roll-Instr (with_bodies (out-Instr n.head) (first_held n.bodies) (second_held n.bodies))
 
 abbrev pub erase : Node → Instr
 erase = fold-Node Instr erase_layer
@@ -88,16 +98,16 @@ abbrev pub head_of : Node → Instr
 head_of n = (out-Node n).head
 
 abbrev pub takes_of : Node → List Ty
-takes_of n = (out-Node n).takes
+takes_of n = (out-Node n).types.0
 
 abbrev pub gives_of : Node → List Ty
-gives_of n = (out-Node n).gives
+gives_of n = (out-Node n).types.1
 
 abbrev pub first_of : Node → List Node
-first_of n = (out-Node n).first
+first_of n = first_held (out-Node n).bodies
 
 abbrev pub second_of : Node → List Node
-second_of n = (out-Node n).second
+second_of n = second_held (out-Node n).bodies
 
 mutual
   -- The node takes the types that it says and gives those that it says, and so do the nodes in it, under its label. In

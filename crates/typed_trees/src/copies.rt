@@ -1,20 +1,26 @@
 ghost use Rattle.std.specs.Prelude.{◌≡◌, IfOk};
 
 use crate::module::TypedFn;
-use crate::node::{Node, Nodes};
+use crate::node::{Bodies, Node, Nodes};
 use num_core::lists::TryCopy;
-use sqlite_items::Items;
+use sqlite_items::{Boxed, Items};
 use std::alloc::{AllocError, Global};
 
 impl TryCopy for Node {
     #[cycle(copies)]
     fn copy(&self, alloc: Global) -> Result<Node, AllocError> {
+        let bodies = match &self.bodies {
+            Some(bodies) => {
+                let first = copy_of(&bodies.get().first, alloc)?;
+                let second = copy_of(&bodies.get().second, alloc)?;
+                Some(Boxed::new(alloc, Bodies { first, second })?)
+            }
+            None => None,
+        };
         Ok(Node {
             head: self.head.copy(alloc)?,
-            takes: self.takes.copy(alloc)?,
-            gives: self.gives.copy(alloc)?,
-            first: copy_of(&self.first, alloc)?,
-            second: copy_of(&self.second, alloc)?,
+            types: self.types.copy(alloc)?,
+            bodies,
         })
     }
 }

@@ -6,11 +6,14 @@
 #![tactic(auto)]
 
 mod copies;
+mod few_types;
 mod global_type;
 pub mod laws;
 mod module;
 mod node;
+mod signature;
 
 pub use global_type::GlobalType;
 pub use module::{TypedFn, TypedModule};
-pub use node::{Node, Nodes};
+pub use node::{Bodies, Node, Nodes};
+pub use signature::Signature;

@@ -12,7 +12,7 @@ ghost use Rattle.valid_new.specs.Nested.{holds_code, nested_form};
 ghost use Rattle.valid_new.specs.Scopes.{context_of, labels_of};
 
 use crate::nested::{Nested, emptied, holds_code, nested_of};
-use crate::nodes::{leaf_of, node_of};
+use crate::nodes::{leaf_of, node_of, room_for};
 use crate::plans::plan_of;
 use crate::scope::{Scope, label_types, labels_at};
 use crate::values::Values;
@@ -129,9 +129,9 @@ pub fn type_code<'a>(
     ensures operands { IfOk result (λ found. IfSome found (λ nodes. operands.new ≡ operands.old)) }
     ensures labels { IfOk result (λ found. IfSome found (λ nodes. labels.new.items ≡ labels.old.items)) }
 {
+    let mut nodes = room_for(alloc, code.len())?;
     let covered = operands.begin();
     operands.push_all(takes)?;
-    let mut nodes = Items::new(alloc);
     for instr in code {
         if !type_instr(alloc, scope, labels, operands, instr, &mut nodes)? {
             return Ok(None);

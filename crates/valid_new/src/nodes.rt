@@ -7,25 +7,48 @@ ghost use Rattle.valid_new.specs.Nodes.{NodeIs};
 
 use crate::types::{one, two};
 use num_core::lists::TryCopy;
-use sqlite_items::Items;
+use sqlite_items::{Boxed, Items};
 use std::alloc::{AllocError, Global};
-use typed_trees::{Node, Nodes};
+use typed_trees::{Bodies, Node, Nodes, Signature};
 use typing_kit::{Met, Operand, Plan};
 use wasm_ast::lists::Types;
 use wasm_ast::module::{Instr, Ty};
 
+/// No nodes yet, and memory for so many.
+pub fn room_for(alloc: Global, count: usize) -> Result<Nodes, AllocError>
+    ensures { IfOk result (λ nodes. nodes ≡ []) }
+{
+    Ok(Items::from_vec(Vec::with_capacity(alloc, count)?))
+}
+
 /// The types, and one more on top.
-fn types_of(alloc: Global, types: &[Ty], top: Option<Ty>) -> Result<Types, AllocError>
-    ensures { IfOk result (λ list. list ≡ with_top types.now top) }
+fn types_of(alloc: Global, types: &[Ty], top: Ty) -> Result<Types, AllocError>
+    ensures { IfOk result (λ list. list ≡ types.now ++ top ∷ []) }
 {
     let mut list = Types::new(alloc);
     for ty in types {
         list.push(*ty)?;
     }
-    if let Some(ty) = top {
-        list.push(ty)?;
-    }
+    list.push(top)?;
     Ok(list)
+}
+
+/// What is taken, maybe with one more type on top, and what is given.
+fn signature_of(
+    alloc: Global,
+    takes: &[Ty],
+    top: Option<Ty>,
+    gives: &[Ty],
+) -> Result<Signature, AllocError>
+    ensures { IfOk result (λ signature. signature ≡ (with_top takes.now top, gives.now)) }
+{
+    match top {
+        Some(ty) => {
+            let takes = types_of(alloc, takes, ty)?;
+            Signature::new(alloc, takes.as_slice(), gives)
+        }
+        None => Signature::new(alloc, takes, gives),
+    }
 }
 
 /// A node without code in it.
@@ -40,10 +63,8 @@ fn leaf(
 {
     Ok(Node {
         head: instr.copy(alloc)?,
-        takes: types_of(alloc, takes, top)?,
-        gives: types_of(alloc, gives, None)?,
-        first: Items::new(alloc),
-        second: Items::new(alloc),
+        types: signature_of(alloc, takes, top, gives)?,
+        bodies: None,
     })
 }
 
@@ -96,9 +117,7 @@ pub fn node_of(
 {
     Ok(Node {
         head,
-        takes: types_of(alloc, takes, top)?,
-        gives: types_of(alloc, gives, None)?,
-        first,
-        second,
+        types: signature_of(alloc, takes, top, gives)?,
+        bodies: Some(Boxed::new(alloc, Bodies { first, second })?),
     })
 }
