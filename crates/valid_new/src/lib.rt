@@ -21,3 +21,4 @@ pub use annotating::{Fault, annotate, annotate_body, annotate_func};
 pub use body::type_code;
 pub use scope::{Scope, Spaces};
 pub use spaces::spaces_of;
+pub use types::{is_reference_type, is_value_type, matches};

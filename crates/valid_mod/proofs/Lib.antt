@@ -1,0 +1,9 @@
+pub mod Deciding
+pub mod Constants
+pub mod Order
+pub mod Names
+pub mod Whole
+pub mod Unique
+pub mod Keeping
+pub mod Cutting
+pub mod Standing

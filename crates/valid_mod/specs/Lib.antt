@@ -1,0 +1,6 @@
+pub mod Searches
+pub mod Parts
+pub mod Verdict
+pub mod Standing
+pub mod Bodies
+pub mod Hidden

@@ -1,0 +1,28 @@
+ghost use Rattle.std.specs.Prelude.{◌≡◌};
+ghost use Rattle.valid_mod.specs.declared.invalid.Invalid.TheVariants.{Memory};
+
+use std::alloc::AllocError;
+use thiserror::Error;
+
+/// Why a module was not found typed.
+#[derive(Debug, Drop, Error)]
+pub enum Invalid {
+    /// The part at this place of the section with this id is the first that is not typed: of two exports with one name
+    /// the later. The start is place 0. The section of tags, 13, stands between those of memories and of globals.
+    #[error("part")]
+    Part { section: u8, index: u32 },
+    /// All parts are typed, and the body at this place is the first that is not.
+    #[error("body")]
+    Body(u32),
+    /// Memory was not found. A place of 2^32 or more is one that no answer has room for.
+    #[error("out of memory")]
+    Memory(AllocError),
+}
+
+impl From<AllocError> for Invalid {
+    ghost from_gives = { λ error fault. fault ≡ Memory error };
+
+    fn from(error: AllocError) -> Invalid {
+        Invalid::Memory(error)
+    }
+}

@@ -1,0 +1,56 @@
+// The verdict on a module: its parts in their order, then its bodies.
+
+ghost use Rattle.std.specs.Prelude.{IfOk, Result};
+ghost use Rattle.wasm_ast.specs.Counts.{Agrees};
+ghost use Rattle.valid_mod.specs.declared.invalid.Invalid.{Invalid};
+ghost use Rattle.valid_mod.specs.Bodies.{TellsOfBodies};
+ghost use Rattle.valid_mod.specs.Standing.{StandsFor};
+ghost use Rattle.valid_mod.specs.Verdict.{IsVerdict, Settles, Tells, verdict_of};
+
+use crate::bare::parts_of;
+use crate::bodies::{Trees, type_bodies};
+use crate::invalid::Invalid;
+use crate::parts::type_parts;
+use sqlite_items::Items;
+use std::alloc::Global;
+use typed_trees::{TypedFn, TypedModule};
+use wasm_ast::module::Module;
+
+/// The parts are typed, and then the bodies, which are kept or not.
+fn type_module(alloc: Global, m: &Module, trees: Trees) -> Result<Items<TypedFn>, Invalid>
+    requires { Agrees m.now }
+    ensures { TellsOfBodies m.now trees result }
+{
+    let spaces = type_parts(alloc, m)?;
+    type_bodies(alloc, &spaces, m, trees)
+}
+
+/// Whether a module is typed as 3.0 ("Modules" of chapter 3), and then the module with its types and without code that
+/// cannot be reached. Its parts are tested in the order of their sections and places, and then its bodies; the answer
+/// names the first that is not typed. The time is about linear in the size of the module, and the recursion goes as deep
+/// as its blocks nest.
+pub fn validate(alloc: Global, m: &Module) -> Result<TypedModule, Invalid>
+    requires { Agrees m.now }
+    // What the answer says of the module.
+    ensures tells { Tells m.now (verdict_of result) }
+    // The typed module is that module.
+    ensures stands { IfOk result (StandsFor m.now) }
+    // No other answer is right, want of memory aside.
+    ensures only { (other : Result (Unit {0}) Invalid) → Settles m.now other → IsVerdict (verdict_of result) other }
+{
+    let fns = type_module(alloc, m, Trees::Kept)?;
+    let parts = parts_of(alloc, m)?;
+    Ok(TypedModule::build(parts, fns))
+}
+
+/// The same verdict, for which no more than one typed body is kept at a time.
+pub fn check(alloc: Global, m: &Module) -> Result<(), Invalid>
+    requires { Agrees m.now }
+    // What the answer says of the module.
+    ensures tells { Tells m.now result }
+    // No other answer is right, want of memory aside.
+    ensures only { (other : Result (Unit {0}) Invalid) → Settles m.now other → IsVerdict result other }
+{
+    type_module(alloc, m, Trees::Dropped)?;
+    Ok(())
+}
