@@ -1,0 +1,4 @@
+pub mod Configurations
+pub mod Control
+pub mod Forms
+pub mod Languages
