@@ -1,9 +1,8 @@
 -- That two runs agree up to a number of turns is a law that is closed.
-use Rattle.std.proofs.Common.{◌≡◌, ℕ, zero, suc, ◌-◌, ◌≤◌, Option, refl, sym, ap, ◌∙◌, arith}
-use Rattle.evaluation_kit.specs.declared.jump.Jump.{Jump}
-use Rattle.outcome_kit.specs.Outcome.{Out, Done, Halt, after, bind, turn}
+use Rattle.std.proofs.Common.{◌≡◌, ℕ, zero, suc, ◌≤◌, refl, sym, ap, ◌∙◌, arith}
+use Rattle.outcome_kit.specs.Outcome.{Out, after, bind, turn}
 use Rattle.evaluation_kit.specs.Configurations.{World, deeper}
-use Rattle.evaluation_kit.proofs.Closure.{Run, Place, Closed, Lighter}
+use Rattle.evaluation_kit.proofs.Closure.{Run, Place, Closed}
 use Rattle.evaluation_kit.proofs.Loops.{bind-within}
 
 module _ {S R : Type 0} where
@@ -25,8 +24,8 @@ pub bind_agrees : {S R R' : Type 0} (pl : Place S R) (N : ℕ) (m m' : Run S R) 
 bind_agrees pl N m m' k k' h next w n le =
     ap (λ o. bind n o k) (h w n le)
     ∙ bind-within n (m' w n) k k' (λ r i le'.
-      let less : i ≤ N = omega arith in
-      ap (λ x. k x i) (sym (pl.put_at r)) ∙ next r (pl.at r) i less ∙ ap (λ x. k' x i) (pl.put_at r))
+    let less : i ≤ N = omega arith in
+    ap (λ x. k x i) (sym (pl.put_at r)) ∙ next r (pl.at r) i less ∙ ap (λ x. k' x i) (pl.put_at r))
 
 -- up to so many turns both runs are the same
 abbrev pub agreement : (S : Type 0) → Closed S
@@ -35,11 +34,11 @@ agreement S = record {
   Stable = λ X g. Unit {0};
   done = λ R pl N r w n le. refl;
   bind = λ R R' pl pl' N j m m' k k' h next. bind_agrees pl N m m' k k' h next;
-  start = λ R pl j m m'. start_agrees m m';
-  turn = λ R pl N j m m' h. turn_agrees N m m' h;
+  start = λ R pl m m'. start_agrees m m';
+  turn = λ R pl N m m' h. turn_agrees N m m' h;
   less = λ R pl N j m m' h. less_agrees N m m' h;
   lighter = λ R pl N j i m m' e h. h;
-  deeper = λ R pl N j m m' d h w n le. h (deeper d w) n le;
-  reads = λ X R pl N j g m m' s h w n le. h (g w) w n le;
+  deeper = λ R pl N m m' d h w n le. h (deeper d w) n le;
+  reads = λ X R pl N g m m' s h w n le. h (g w) w n le;
   alike = λ R pl N j m m' l l' h e e' w n le. sym (e w n) ∙ h w n le ∙ e' w n;
 }

@@ -1,11 +1,11 @@
 -- What a law of runs has to be closed under, so that it holds of all code: one record, of which each law is an instance.
 -- A law speaks of two runs side by side, since two meanings of one language are compared too; most speak of one alone.
-use Rattle.std.proofs.Common.{◌≡◌, ℕ, zero, suc, Option, Some, None, refl}
+use Rattle.std.proofs.Common.{◌≡◌, ℕ, suc, Option, Some, None, refl}
 use Rattle.evaluation_kit.specs.declared.jump.Jump.{Jump}
 use Rattle.evaluation_kit.specs.declared.jump.Jump.TheVariants.{Branch, Return, TailCall, Trap, Stuck}
 use Rattle.outcome_kit.specs.Outcome.{Out, Done, bind, turn}
 use Rattle.outcome_kit.specs.Code.{Go, Leave}
-use Rattle.evaluation_kit.specs.Configurations.{World, Conf, Res, deeper, in_world}
+use Rattle.evaluation_kit.specs.Configurations.{World, Res, deeper, in_world}
 
 -- a run from a world
 abbrev pub Run : Type 0 → Type 0 → Type 0
@@ -38,12 +38,12 @@ pub record Closed (S : Type 0) : Type 1 where
   pub Stable : (X : Type 0) → (World S → X) → Type 0
   pub done : (R : Type 0) (pl : Place S R) (N : ℕ) (r : R) → Holds R pl N (pl.jump r) (λ w n. Done 0 (pl.put w r)) (λ w n. Done 0 (pl.put w r))
   pub bind : (R R' : Type 0) (pl : Place S R) (pl' : Place S R') (N : ℕ) (j : Option Jump) (m m' : Run S R) (k k' : R → ℕ → Out (World S) R') → Holds R pl N j m m' → ((r : R) → Holds R' pl' N (pl.jump r) (λ w n. k (pl.put w r) n) (λ w n. k' (pl.put w r) n)) → Holds R' pl' N j (λ w n. bind n (m w n) k) (λ w n. bind n (m' w n) k')
-  pub start : (R : Type 0) (pl : Place S R) (j : Option Jump) (m m' : Run S R) → Holds R pl 0 j (λ w n. turn n w (m w)) (λ w n. turn n w (m' w))
-  pub turn : (R : Type 0) (pl : Place S R) (N : ℕ) (j : Option Jump) (m m' : Run S R) → Holds R pl N j m m' → Holds R pl (suc N) j (λ w n. turn n w (m w)) (λ w n. turn n w (m' w))
+  pub start : (R : Type 0) (pl : Place S R) (m m' : Run S R) → Holds R pl 0 None (λ w n. turn n w (m w)) (λ w n. turn n w (m' w))
+  pub turn : (R : Type 0) (pl : Place S R) (N : ℕ) (m m' : Run S R) → Holds R pl N None m m' → Holds R pl (suc N) None (λ w n. turn n w (m w)) (λ w n. turn n w (m' w))
   pub less : (R : Type 0) (pl : Place S R) (N : ℕ) (j : Option Jump) (m m' : Run S R) → Holds R pl (suc N) j m m' → Holds R pl N j m m'
   pub lighter : (R : Type 0) (pl : Place S R) (N : ℕ) (j i : Option Jump) (m m' : Run S R) → Lighter j i → Holds R pl N i m m' → Holds R pl N j m m'
-  pub deeper : (R : Type 0) (pl : Place S R) (N : ℕ) (j : Option Jump) (m m' : Run S R) (open_calls : ℕ) → Holds R pl N j m m' → Holds R pl N j (λ w n. m (deeper open_calls w) n) (λ w n. m' (deeper open_calls w) n)
-  pub reads : (X R : Type 0) (pl : Place S R) (N : ℕ) (j : Option Jump) (g : World S → X) (m m' : X → Run S R) → Stable X g → ((x : X) → Holds R pl N j (m x) (m' x)) → Holds R pl N j (λ w n. m (g w) w n) (λ w n. m' (g w) w n)
+  pub deeper : (R : Type 0) (pl : Place S R) (N : ℕ) (m m' : Run S R) (open_calls : ℕ) → Holds R pl N None m m' → Holds R pl N None (λ w n. m (deeper open_calls w) n) (λ w n. m' (deeper open_calls w) n)
+  pub reads : (X R : Type 0) (pl : Place S R) (N : ℕ) (g : World S → X) (m m' : X → Run S R) → Stable X g → ((x : X) → Holds R pl N None (m x) (m' x)) → Holds R pl N None (λ w n. m (g w) w n) (λ w n. m' (g w) w n)
   pub alike : (R : Type 0) (pl : Place S R) (N : ℕ) (j : Option Jump) (m m' l l' : Run S R) → Holds R pl N j m m' → ((w : World S) (n : ℕ) → m w n ≡ l w n) → ((w : World S) (n : ℕ) → m' w n ≡ l' w n) → Holds R pl N j l l'
 
 module _ {V S : Type 0} where

@@ -1,15 +1,14 @@
 -- Functions in terms of themselves: a call is the entry of a function whose calls are calls again. And a law that is
 -- closed holds of all functions of a language, and so of all its code.
-use Rattle.std.proofs.Common.{◌≡◌, ℕ, zero, suc, ◌≤◌, List, Bool, Option, Some, None, refl, sym, ap, ◌∙◌, subst, arith, le_refl}
-use Rattle.outcome_kit.specs.Outcome.{Out, Done, Halt, turn}
-use Rattle.evaluation_kit.specs.Configurations.{World, Conf, Plain, PlainRes, Res, Sem, in_world}
-use Rattle.evaluation_kit.specs.Control.{Function, Callee, Own, Host, enter, arrive}
+use Rattle.std.proofs.Common.{◌≡◌, ℕ, zero, suc, ◌≤◌, List, Option, Some, None, refl, sym, arith, le_refl}
+use Rattle.evaluation_kit.specs.Configurations.{World, Conf, Res, Sem, in_world}
+use Rattle.evaluation_kit.specs.Control.{Function, Callee, Own, Host, arrive}
 use Rattle.evaluation_kit.specs.Forms.{Form, Flat, Enclose, Repeat, Choose, Guard, Invoke, InvokeBy}
-use Rattle.evaluation_kit.specs.Languages.{Language, code_with, enter_with, func_within, func, exec, exec_code}
+use Rattle.evaluation_kit.specs.Languages.{Language, enter_with, func_within, func, exec, exec_code}
 use Rattle.evaluation_kit.proofs.Closure.{Closed, res_place}
-use Rattle.evaluation_kit.proofs.Parts.{Both, Related}
+use Rattle.evaluation_kit.proofs.Parts.{Related}
 use Rattle.evaluation_kit.proofs.Whole.{OwesForm, OwesCallee, Owes, exec_related, code_related, entry_at_once, entry_related}
-use Rattle.evaluation_kit.proofs.Agreement.{Agree, agreement}
+use Rattle.evaluation_kit.proofs.Agreement.{agreement}
 
 module _ {I : Type 0} {F : Type 0 → Type 0} {V S : Type 0} (L : Language I F V S) where
   form_agrees : {X : Type 0} (form : Form V S X) → OwesForm (agreement S) form

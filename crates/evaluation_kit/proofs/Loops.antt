@@ -1,9 +1,8 @@
 -- A loop in terms of itself: one pass, which takes a turn, and then the loop again.
-use Rattle.std.proofs.Common.{◌≡◌, ℕ, zero, suc, ◌-◌, ◌≤◌, List, refl, sym, ap, ◌∙◌, arith, le_refl}
-use Rattle.evaluation_kit.specs.declared.jump.Jump.{Jump}
+use Rattle.std.proofs.Common.{◌≡◌, ℕ, zero, suc, ◌-◌, ◌≤◌, List, refl, ap, arith, le_refl}
 use Rattle.evaluation_kit.specs.declared.jump.Jump.TheVariants.{Branch}
 use Rattle.outcome_kit.specs.Outcome.{Out, Done, Halt, after, bind, turn}
-use Rattle.outcome_kit.specs.Code.{Go, Leave}
+use Rattle.outcome_kit.specs.Code.{Leave}
 use Rattle.evaluation_kit.specs.Configurations.{World, Conf, Res, Sem}
 use Rattle.evaluation_kit.specs.Control.{entered, leave_pass, passes, cycle}
 
@@ -33,12 +32,12 @@ module _ {V S : Type 0} where
       let y : N ≤ k = omega arith in
       let z : N ≤ i = omega arith in
       ap (after 1) (bind-within n (body d n c) (leave_pass (passes k p r below body d) p r below) (leave_pass (passes i p r below body d) p r below)
-        (λ r' m le. leave_pass-within n (passes k p r below body d) (passes i p r below body d) p r below
-          (λ m' c' le'. let w : m' ≤ N = omega arith in passes-enough N k i p r below body d m' c' w y z) r' m le))
+      (λ r' m le. leave_pass-within n (passes k p r below body d) (passes i p r below body d) p r below
+      (λ m' c' le'. let w : m' ≤ N = omega arith in passes-enough N k i p r below body d m' c' w y z) r' m le))
 
   pub cycle-pass : (p r : ℕ) (below : List V) (body : Sem V S) (open_calls n : ℕ) (c : Conf V S) → cycle p r below body open_calls n c ≡ turn n c.world (λ m. bind m (body open_calls m c) (leave_pass (cycle p r below body open_calls) p r below))
   cycle-pass p r below body d zero c = refl
   cycle-pass p r below body d (suc n) c =
       ap (after 1) (bind-within n (body d n c) (leave_pass (passes n p r below body d) p r below) (leave_pass (cycle p r below body d) p r below)
-        (λ r' m le. leave_pass-within n (passes n p r below body d) (cycle p r below body d) p r below
-          (λ m' c' le'. passes-enough m' n m' p r below body d m' c' (le_refl m') le' (le_refl m')) r' m le))
+      (λ r' m le. leave_pass-within n (passes n p r below body d) (cycle p r below body d) p r below
+      (λ m' c' le'. passes-enough m' n m' p r below body d m' c' (le_refl m') le' (le_refl m')) r' m le))

@@ -1,13 +1,13 @@
 -- A law that is closed holds of each form of code, if it holds of the code inside it.
-use Rattle.std.proofs.Common.{◌≡◌, ℕ, zero, suc, ◌+◌, List, [], ◌∷◌, map, take, drop, Bool, true, false, if◌then◌else◌, Option, Some, None, refl, sym}
+use Rattle.std.proofs.Common.{ℕ, zero, suc, List, [], ◌∷◌, map, drop, Bool, true, false, if◌then◌else◌, Option, Some, None, sym}
 use Rattle.evaluation_kit.specs.declared.jump.Jump.{Jump}
-use Rattle.evaluation_kit.specs.declared.jump.Jump.TheVariants.{Branch, Return, Throw, TailCall, Trap, Stuck}
-use Rattle.outcome_kit.specs.Outcome.{Out, Done, bind, turn}
+use Rattle.evaluation_kit.specs.declared.jump.Jump.TheVariants.{Branch, Throw, Trap, Stuck}
+use Rattle.outcome_kit.specs.Outcome.{Out, Done, bind}
 use Rattle.outcome_kit.specs.Code.{Go, Leave, go_on, run}
-use Rattle.evaluation_kit.specs.Configurations.{World, Conf, Plain, PlainRes, Res, Sem, in_world, plain_of, settled, deeper}
+use Rattle.evaluation_kit.specs.Configurations.{World, Conf, Plain, PlainRes, Res, Sem, in_world, plain_of, settled}
 use Rattle.evaluation_kit.specs.Control
 use Rattle.evaluation_kit.specs.Control.{Handler, Caught, entered, kept, popped, leave_block, leave_pass, cycle, handled, taken, returned, call_picked, where_ready, when_ready}
-use Rattle.evaluation_kit.proofs.Closure.{Run, Closed, Lighter, branch_ends, branch_moves, return_ends, traps, sticks, res_place, res_put, res_jump}
+use Rattle.evaluation_kit.proofs.Closure.{Run, Closed, Lighter, branch_ends, branch_moves, traps, sticks, res_place, res_put, res_jump}
 use Rattle.evaluation_kit.proofs.Loops.{cycle-pass}
 
 module _ {V S : Type 0} (C : Closed S) where
@@ -68,13 +68,13 @@ module _ {V S : Type 0} (C : Closed S) where
   cycle_related : (N p r : ℕ) (below : List V) (a b : Sem V S) → Related N a b → (d : ℕ) (c : Conf V S) → Both N None (λ w n. cycle p r below a d n (in_world w c)) (λ w n. cycle p r below b d n (in_world w c))
   cycle_related zero p r below a b h d c =
       C.alike (Res V S) res_place zero None _ _ _ _
-      (C.start (Res V S) res_place None (λ w m. bind m (a d m (in_world w c)) (leave_pass (cycle p r below a d) p r below)) (λ w m. bind m (b d m (in_world w c)) (leave_pass (cycle p r below b d) p r below)))
+      (C.start (Res V S) res_place (λ w m. bind m (a d m (in_world w c)) (leave_pass (cycle p r below a d) p r below)) (λ w m. bind m (b d m (in_world w c)) (leave_pass (cycle p r below b d) p r below)))
       (λ w n. sym (cycle-pass p r below a d n (in_world w c))) (λ w n. sym (cycle-pass p r below b d n (in_world w c)))
   cycle_related (suc N) p r below a b h d c =
       let less = less_related N a b h in
       C.alike (Res V S) res_place (suc N) None _ _ _ _
-      (C.turn (Res V S) res_place N None (λ w m. bind m (a d m (in_world w c)) (leave_pass (cycle p r below a d) p r below)) (λ w m. bind m (b d m (in_world w c)) (leave_pass (cycle p r below b d) p r below))
-        (followed N None _ _ _ _ (less.from d c) (pass_left N p r below (cycle p r below a d) (cycle p r below b d) (cycle_related N p r below a b less d))))
+      (C.turn (Res V S) res_place N (λ w m. bind m (a d m (in_world w c)) (leave_pass (cycle p r below a d) p r below)) (λ w m. bind m (b d m (in_world w c)) (leave_pass (cycle p r below b d) p r below))
+      (followed N None _ _ _ _ (less.from d c) (pass_left N p r below (cycle p r below a d) (cycle p r below b d) (cycle_related N p r below a b less d))))
       (λ w n. sym (cycle-pass p r below a d n (in_world w c))) (λ w n. sym (cycle-pass p r below b d n (in_world w c)))
 
   pub loop_related : (N p r : ℕ) (a b : Sem V S) → Related N a b → Related N (Control.loop p r a) (Control.loop p r b)
@@ -129,9 +129,9 @@ module _ {V S : Type 0} (C : Closed S) where
 
   pub call_by_related : (N p : ℕ) (pick : Plain V S → Option ℕ) (funcs others : ℕ → Sem V S) → OwesPick (Option ℕ) pick → ((f : ℕ) → Related N (funcs f) (others f)) → Related N (Control.call_by p pick funcs) (Control.call_by p pick others)
   call_by_related N p pick funcs others owes h = record {
-    from = λ d c. C.reads (Option ℕ) (Res V S) res_place N None (λ w. pick (plain_of (in_world w c)))
-      (λ o w n. call_picked p funcs o d n (popped (in_world w c))) (λ o w n. call_picked p others o d n (popped (in_world w c)))
-      (owes.stable c) (λ o. (picked_related N p funcs others h o).from d (popped c));
+    from = λ d c. C.reads (Option ℕ) (Res V S) res_place N (λ w. pick (plain_of (in_world w c)))
+        (λ o w n. call_picked p funcs o d n (popped (in_world w c))) (λ o w n. call_picked p others o d n (popped (in_world w c)))
+        (owes.stable c) (λ o. (picked_related N p funcs others h o).from d (popped c));
   }
 
   ready_related : (N : ℕ) (ready : Bool) (a b : Sem V S) → Related N a b → Related N (where_ready ready a) (where_ready ready b)
@@ -140,7 +140,7 @@ module _ {V S : Type 0} (C : Closed S) where
 
   pub when_ready_related : (N : ℕ) (ready : Plain V S → Bool) (a b : Sem V S) → OwesPick Bool ready → Related N a b → Related N (when_ready ready a) (when_ready ready b)
   when_ready_related N ready a b owes h = record {
-    from = λ d c. C.reads Bool (Res V S) res_place N None (λ w. ready (plain_of (in_world w c)))
-      (λ o w n. where_ready o a d n (in_world w c)) (λ o w n. where_ready o b d n (in_world w c))
-      (owes.stable c) (λ o. (ready_related N o a b h).from d c);
+    from = λ d c. C.reads Bool (Res V S) res_place N (λ w. ready (plain_of (in_world w c)))
+        (λ o w n. where_ready o a d n (in_world w c)) (λ o w n. where_ready o b d n (in_world w c))
+        (owes.stable c) (λ o. (ready_related N o a b h).from d c);
   }

@@ -1,18 +1,15 @@
 -- A law that is closed holds of all code and of all functions of a language, if it holds of its plain instructions,
 -- handlers and host functions. And functions in terms of themselves: a call is the entry of a function whose calls are
 -- calls again.
-use Rattle.std.proofs.Common.{◌≡◌, ℕ, zero, suc, ◌+◌, ◌≤◌, List, [], map, take, Bool, Option, Some, None, refl, sym, ap, ◌∙◌, subst, arith, le_refl}
-use Rattle.evaluation_kit.specs.declared.jump.Jump.{Jump}
-use Rattle.evaluation_kit.specs.declared.jump.Jump.TheVariants.{Branch, Return, Throw, TailCall, Trap}
-use Rattle.outcome_kit.specs.Outcome.{Out, Done, Halt, bind, turn}
-use Rattle.outcome_kit.specs.Code.{Go, Leave, run}
-use Rattle.outcome_kit.proofs.Outcomes.{bind-same}
-use Rattle.evaluation_kit.specs.Configurations.{World, Conf, Plain, PlainRes, Res, Sem, in_world, settled, deeper}
-use Rattle.evaluation_kit.specs.Control.{Function, Callee, Own, Host, opened, ended, leave_body, hosted, enter, arrive, when_ready}
+use Rattle.std.proofs.Common.{◌≡◌, ℕ, suc, ◌+◌, List, [], take, Bool, Option, Some, None, sym, ap, ◌∙◌, subst}
+use Rattle.evaluation_kit.specs.declared.jump.Jump.TheVariants.{Branch, Return, TailCall, Trap}
+use Rattle.outcome_kit.specs.Outcome.{Done}
+use Rattle.outcome_kit.specs.Code.{Go, Leave}
+use Rattle.evaluation_kit.specs.Configurations.{Plain, PlainRes, Res, Sem, in_world, settled}
+use Rattle.evaluation_kit.specs.Control.{Function, Callee, Own, Host, opened, ended, leave_body, enter, arrive, when_ready}
 use Rattle.evaluation_kit.specs.Forms.{Form, Flat, Enclose, Repeat, Choose, Guard, Invoke, InvokeBy, map_form, eval}
-use Rattle.evaluation_kit.specs.Languages.{Language, exec_layer, exec_with, code_with, enter_with, func_within, func, exec_code}
-use Rattle.evaluation_kit.proofs.Closure.{Run, Closed, Lighter, branch_ends, return_ends, tail_begins, traps, res_place, res_put, res_jump}
-use Rattle.evaluation_kit.proofs.Loops.{bind-within}
+use Rattle.evaluation_kit.specs.Languages.{Language, exec_layer, exec_with, code_with, enter_with}
+use Rattle.evaluation_kit.proofs.Closure.{Closed, branch_ends, return_ends, tail_begins, traps, res_place, res_put, res_jump}
 use Rattle.evaluation_kit.proofs.Parts.{Both, Related, OwesLeaf, OwesHandler, OwesPick, run_related, leaf_related, block_related, loop_related, choose_related, guard_related, call_related, call_by_related, when_ready_related}
 
 module _ {V S : Type 0} (C : Closed S) where
@@ -53,8 +50,8 @@ module _ {V S : Type 0} (C : Closed S) where
   enter_related : {I : Type 0} (N : ℕ) (a b : Sem V S) (funcs others : ℕ → Sem V S) → Related C N a b → ((f : ℕ) → Related C N (funcs f) (others f)) → (f : Function I V) → Related C N (enter a funcs f) (enter b others f)
   enter_related N a b funcs others h fs f = record {
     from = λ d c. C.bind (Res V S) (Res V S) res_place res_place N None _ _ _ _
-      (C.deeper (Res V S) res_place N None (λ w n. a (d + 1) n (in_world w (opened d f c))) (λ w n. b (d + 1) n (in_world w (opened d f c))) d (h.from (d + 1) (opened d f c)))
-      (body_left N d f.results funcs others fs);
+        (C.deeper (Res V S) res_place N (λ w n. a (d + 1) n (in_world w (opened d f c))) (λ w n. b (d + 1) n (in_world w (opened d f c))) d (h.from (d + 1) (opened d f c)))
+        (body_left N d f.results funcs others fs);
   }
 
   arrive_related : {I : Type 0} (N : ℕ) (o : Option (Callee I V S)) → OwesCallee o → (own other : Function I V → Sem V S) → ((f : Function I V) → Related C N (own f) (other f)) → Related C N (arrive o own) (arrive o other)
@@ -86,21 +83,21 @@ module _ {I : Type 0} {F : Type 0 → Type 0} {V S : Type 0} (L : Language I F V
     exec_related N funcs others owes fs i =
         let P : I → Type 0 = λ i'. Related C N (exec_with L funcs i') (exec_with L others i') in
         L.tree.induct P (λ l. moved C N _ _ _ _ (layer_of P funcs l) (layer_of P others l)
-          (when_ready_related C N (L.ready ((i' : I) × P i') l) _ _ (owes.ready ((i' : I) × P i') l)
-            (eval_related C N ((i' : I) × P i') (λ x. exec_with L funcs x.0) (λ x. exec_with L others x.0) funcs others (λ x. x.1) fs (L.layer ((i' : I) × P i') l) (owes.forms ((i' : I) × P i') l)))) i
+        (when_ready_related C N (L.ready ((i' : I) × P i') l) _ _ (owes.ready ((i' : I) × P i') l)
+        (eval_related C N ((i' : I) × P i') (λ x. exec_with L funcs x.0) (λ x. exec_with L others x.0) funcs others (λ x. x.1) fs (L.layer ((i' : I) × P i') l) (owes.forms ((i' : I) × P i') l)))) i
 
     pub code_related : (N : ℕ) (funcs others : ℕ → Sem V S) → Owes → ((f : ℕ) → Related C N (funcs f) (others f)) → (code : List I) → Related C N (code_with L funcs code) (code_with L others code)
     code_related N funcs others owes fs code = run_related C N I (exec_with L funcs) (exec_with L others) (exec_related N funcs others owes fs) code
 
     pub entry_at_once : (funcs others : ℕ → Sem V S) → Owes → (x : ℕ) → Related C 0 (enter_with L funcs x) (enter_with L others x)
     entry_at_once funcs others owes x = arrive_related C 0 (L.callee x) (owes.callees x) _ _ (λ f. record {
-      from = λ d c. C.start (Res V S) res_place None
-        (λ w m. enter (code_with L funcs f.body) funcs f d m (in_world w c)) (λ w m. enter (code_with L others f.body) others f d m (in_world w c));
+      from = λ d c. C.start (Res V S) res_place
+          (λ w m. enter (code_with L funcs f.body) funcs f d m (in_world w c)) (λ w m. enter (code_with L others f.body) others f d m (in_world w c));
     })
 
     pub entry_related : (N : ℕ) (funcs others : ℕ → Sem V S) → Owes → ((f : ℕ) → Related C N (funcs f) (others f)) → (x : ℕ) → Related C (suc N) (enter_with L funcs x) (enter_with L others x)
     entry_related N funcs others owes fs x = arrive_related C (suc N) (L.callee x) (owes.callees x) _ _ (λ f. record {
-      from = λ d c. C.turn (Res V S) res_place N None
-        (λ w m. enter (code_with L funcs f.body) funcs f d m (in_world w c)) (λ w m. enter (code_with L others f.body) others f d m (in_world w c))
-        ((enter_related C N (code_with L funcs f.body) (code_with L others f.body) funcs others (code_related N funcs others owes fs f.body) fs f).from d c);
+      from = λ d c. C.turn (Res V S) res_place N
+          (λ w m. enter (code_with L funcs f.body) funcs f d m (in_world w c)) (λ w m. enter (code_with L others f.body) others f d m (in_world w c))
+          ((enter_related C N (code_with L funcs f.body) (code_with L others f.body) funcs others (code_related N funcs others owes fs f.body) fs f).from d c);
     })
