@@ -4,6 +4,7 @@ pub mod Parts
 pub mod Whole
 pub mod Agreement
 pub mod Functions
+pub mod Tasks
 pub mod Growing
 pub mod Invariants
 pub mod Replaying

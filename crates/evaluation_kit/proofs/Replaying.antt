@@ -52,7 +52,7 @@ module _ {S : Type 0} (A : Answering S) where
     pub record Over (w : World S) (o : Out (World S) R) : Type 0 where
       pub result : R
       pub is_done : o ≡ Done 0 result
-      pub same : pl.at result ≡ w
+      pub beyond : (s : S) → A.Beyond w.state s → A.Beyond (pl.at result).state s
       pub full : pl.jump result ≡ Some Full
 
     pub record ReplaysAt (N : ℕ) (j : Option Jump) (m : Run S R) (w : World S) : Type 0 where
@@ -69,7 +69,7 @@ module _ {S : Type 0} (A : Answering S) where
     pub done_replays : (N : ℕ) (r : R) (w : World S) → ReplaysAt N (pl.jump r) (λ v n. Done 0 (pl.put v r)) w
     done_replays N r w = record {
       onward = λ n le. subst (λ v. A.Leads w.state v.state) (sym (pl.at_put w r)) (A.stays w.state);
-      stops = λ full n le. record { result = pl.put w r; is_done = refl; same = pl.at_put w r; full = pl.jump_put w r ∙ full };
+      stops = λ full n le. record { result = pl.put w r; is_done = refl; beyond = λ s b. subst (λ v. A.Beyond v.state s) (sym (pl.at_put w r)) b; full = pl.jump_put w r ∙ full };
       replays = λ n le a t e.
           let none = nothing_more (A.told w.state) a (sym (ap (λ v. A.told v.state) (pl.at_put w r)) ∙ e) in
           let there = ap (λ v. pl.put (free_world t v) (pl.put w r)) (pl.at_put w r) ∙ pl.put_twice (free_world t w) w r in
@@ -164,7 +164,7 @@ module _ {S : Type 0} (A : Answering S) where
         let less : n - 0 ≤ N = omega arith in
         let rest = (next r (pl.at r)).stops over.full (n - 0) less in
         let there : bind n o k ≡ Done 0 rest.result = ap (λ x. bind n x k) over.is_done ∙ ap (λ x. after 0 (k x (n - 0))) (sym (pl.put_at r)) ∙ ap (after 0) rest.is_done in
-        record { result = rest.result; is_done = there; same = rest.same ∙ over.same; full = rest.full }
+        record { result = rest.result; is_done = there; beyond = λ s b. rest.beyond s (over.beyond s b); full = rest.full }
 
     bind_again : (s : S) (n : ℕ) (o : Out (World S) R) (free : List Bool → Out (World S) R) → n ≤ N → A.Leads s (place_of pl.at o).state → ((a t : List Bool) → A.told (place_of pl.at o).state ≡ A.told s ++ a → Replayed pl t o (free (a ++ t))) → (a t : List Bool) → A.told (place_of pl'.at (bind n o k)).state ≡ A.told s ++ a → Replayed pl' t (bind n o k) (bind n (free (a ++ t)) k)
     bind_again s n (Done u r) free le l h a t e =
@@ -188,7 +188,7 @@ module _ {S : Type 0} (A : Answering S) where
             let over = (next r (pl.at r)).stops past.0 (n - u) less in
             let there : k r (n - u) ≡ Done 0 over.result = ap (λ x. k x (n - u)) (sym (pl.put_at r)) ∙ over.is_done in
             let further = A.beyond_stays (pl.at r).state (place_of pl.at other).state (place_of pl'.at (bind n other k)).state past.1 (bind_onward n other le) in
-            inr (subst (λ o. Past pl' (after u o) (bind n other k)) (sym there) (over.full, subst (λ v. A.Beyond v.state (place_of pl'.at (bind n other k)).state) (sym over.same) further))
+            inr (subst (λ o. Past pl' (after u o) (bind n other k)) (sym there) (over.full, over.beyond (place_of pl'.at (bind n other k)).state further))
     bind_again s n (Halt w) free le l h a t e = halted t (free (a ++ t)) (h a t e)
       where
         halted : (t : List Bool) (other : Out (World S) R) → Replayed pl t (Halt w) other → Replayed pl' t (Halt w) (bind n other k)

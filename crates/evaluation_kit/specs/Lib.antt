@@ -2,3 +2,4 @@ pub mod Configurations
 pub mod Control
 pub mod Forms
 pub mod Languages
+pub mod Tasks
