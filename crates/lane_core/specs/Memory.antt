@@ -1,20 +1,14 @@
 -- What loads and stores of vectors make of the bytes of a memory, the lowest first: chapter 4 of the standard,
 -- "Memory Instructions".
 use Rattle.std.specs.Prelude.{ℕ, List, map}
+use Rattle.num_core.specs.Bytes.{from_bytes, to_bytes}
 use Rattle.lane_core.specs.declared.vector.Shape.{Shape}
 use Rattle.lane_core.specs.declared.vector.Shape.TheVariants.{I8x16, I16x8, I32x4, I64x2}
 use Rattle.lane_core.specs.declared.operators.memory.LaneLoad.{LaneLoad}
 use Rattle.lane_core.specs.declared.operators.memory.LaneLoad.TheVariants as loads
 use Rattle.lane_core.specs.Shapes.{lane_count, lane_bytes}
-use Rattle.lane_core.specs.Lanes.{lane_bits, narrower, cut_into, joined, from_lanes}
+use Rattle.lane_core.specs.Lanes.{lane_bits, narrower, cut_into, from_lanes}
 use Rattle.lane_core.specs.Rearranging.{extend_s, extend_u, splat, lane_at, replace}
-
--- the number that bytes make, and the bytes of a number
-abbrev pub from_bytes : List ℕ → ℕ
-from_bytes bytes = joined 8 bytes
-
-abbrev pub to_bytes : ℕ → ℕ → List ℕ
-to_bytes count i = cut_into 8 count i
 
 -- as many numbers of half the width as the shape has lanes, each extended to a lane
 abbrev pub load_extended : (Shape → ℕ → ℕ) → Shape → List ℕ → ℕ
