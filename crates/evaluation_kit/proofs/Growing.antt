@@ -161,7 +161,7 @@ module _ {S : Type 0} (order : Order S) where
   settled_leads w (Go p) l = record { state = l; deepest = le_refl w.deepest }
   settled_leads w (Leave j p) l = record { state = l; deepest = le_refl w.deepest }
 
-  at_once : {R : Type 0} (at : R → World S) (N : ℕ) (w : World S) (r : R) → Leads w (at r) → GrowsAt at N w (λ n. Done 0 r)
+  pub at_once : {R : Type 0} (at : R → World S) (N : ℕ) (w : World S) (r : R) → Leads w (at r) → GrowsAt at N w (λ n. Done 0 r)
   at_once at N w r l = record { onward = λ n le. l; extends = λ n k le le'. refl }
 
   taken_leads : {V : Type 0} (e : ℕ) (w : World S) (c : Conf V S) (k : Option (Caught V S)) → CaughtLeads w.state k → Leads w (res_at (taken e k (record c { world = w })))

@@ -9,3 +9,4 @@ pub mod Growing
 pub mod Invariants
 pub mod Replaying
 pub mod Cutting
+pub mod TaskLaws

@@ -3,7 +3,7 @@ use Rattle.std.proofs.Common.{◌≡◌, ℕ, List, [], ◌∷◌, Option, Some,
 use Rattle.std.specs.List.{AllByRecursion}
 use Rattle.evaluation_kit.specs.declared.jump.Jump.{Jump}
 use Rattle.outcome_kit.specs.Outcome.{Out, Done, bind}
-use Rattle.outcome_kit.specs.Code.{Go, Leave, go_on}
+use Rattle.outcome_kit.specs.Code.{Go, Leave, go_on, stands}
 use Rattle.evaluation_kit.specs.Configurations.{World, Conf, PlainRes, Res, Sem, in_world}
 use Rattle.evaluation_kit.specs.Languages.{Language, func}
 use Rattle.evaluation_kit.specs.Tasks.{Status, Task, Change, Enter, placed, shown, task, tasks}
@@ -13,8 +13,7 @@ use Rattle.evaluation_kit.proofs.Functions.{func_related}
 
 module _ {S : Type 0} where
   abbrev pub status_at : Status (World S) → World S
-  status_at (Go w) = w
-  status_at (Leave j w) = w
+  status_at r = stands r
 
   abbrev pub status_put : World S → Status (World S) → Status (World S)
   status_put w (Go v) = Go w

@@ -3,3 +3,4 @@ pub mod Control
 pub mod Forms
 pub mod Languages
 pub mod Tasks
+pub mod Leaves
