@@ -2,3 +2,6 @@
 #![tactic(auto)]
 
 pub mod laws;
+mod val;
+
+pub use val::Val;
