@@ -10,15 +10,15 @@ use Rattle.evaluation_kit.specs.Control.{Caught, Handler}
 use Rattle.evaluation_kit.specs.Leaves.{top, below}
 use Rattle.meaning_new.specs.declared.val.Val.{Val}
 use Rattle.meaning_new.specs.declared.val.Val.TheVariants.{Exn}
-use Rattle.meaning_new.specs.Store.{State, Exception, mark, missing}
+use Rattle.meaning_new.specs.Store.{Store, State, Exception, mark, missing, with_store}
 
 -- throw x: a new exception, with as many operands as its tag takes
-abbrev pub with_exception : Exception → State → State
+abbrev pub with_exception : Exception → Store → Store
 with_exception e s = record s { exceptions = s.exceptions ++ e ∷ [] }
 
 abbrev pub throw : ℕ → ℕ → Plain Val State → PlainRes Val State
 throw x count p =
-    Leave (Throw (length p.state.exceptions)) (record p { operands = drop count p.operands; state = with_exception (record { tag = x; payload = take count p.operands }) p.state })
+    Leave (Throw (length p.state.store.exceptions)) (record p { operands = drop count p.operands; state = with_store (with_exception (record { tag = x; payload = take count p.operands }) p.state.store) p.state })
 
 -- throw_ref: the exception that the operand refers to; null traps
 abbrev pub thrown : Val → Plain Val State → PlainRes Val State
@@ -51,4 +51,4 @@ caught_if None clauses e s = None
 caught_if (Some x) clauses e s = caught clauses e x s
 
 abbrev pub handler : List Catch → Handler Val State
-handler clauses e s = caught_if (slice_get s.exceptions e) clauses e s
+handler clauses e s = caught_if (slice_get s.store.exceptions e) clauses e s

@@ -19,10 +19,10 @@ use Rattle.evaluation_kit.specs.Configurations.{Plain, PlainRes}
 use Rattle.evaluation_kit.specs.Control.{Function, Callee, Own, Host}
 use Rattle.evaluation_kit.specs.Forms.{Form, Flat, Enclose, Repeat, Choose, Guard, Invoke, InvokeBy}
 use Rattle.evaluation_kit.specs.Leaves as leaves
-use Rattle.evaluation_kit.specs.Leaves.{top, below, on_operands, on_state}
+use Rattle.evaluation_kit.specs.Leaves.{top, below, on_operands}
 use Rattle.meaning_new.specs.declared.val.Val.{Val}
 use Rattle.meaning_new.specs.declared.val.Val.TheVariants as vals
-use Rattle.meaning_new.specs.Store.{State, missing, default}
+use Rattle.meaning_new.specs.Store.{State, missing, default, on_store, on_growth}
 use Rattle.meaning_new.specs.Numeric.{first, pure}
 use Rattle.meaning_new.specs.Memories
 use Rattle.meaning_new.specs.Tables
@@ -84,7 +84,7 @@ of_type m type f = if same_type (type_of_func m f) (slice_get m.types type) then
 
 abbrev pub pick : Module → ℕ → ℕ → Plain Val State → Option ℕ
 pick m type table p =
-    option_and_then (of_type m type) (option_and_then function_of (option_and_then (λ t. slice_get t.entries (first p.operands)) (slice_get p.state.tables table)))
+    option_and_then (of_type m type) (option_and_then function_of (option_and_then (λ t. slice_get t.entries (first p.operands)) (slice_get p.state.store.tables table)))
 
 -- return_call_indirect
 abbrev pub tail_call : Option ℕ → Plain Val State → PlainRes Val State
@@ -121,30 +121,30 @@ layer m X (Instr-F.TryTable t clauses code) = Guard (takes m t) (gives m t) (han
 layer m X (Instr-F.LocalGet x) = Flat (leaves.get_local missing x)
 layer m X (Instr-F.LocalSet x) = Flat (leaves.set_local missing x)
 layer m X (Instr-F.LocalTee x) = Flat (leaves.tee_local missing x)
-layer m X (Instr-F.GlobalGet x) = Flat (on_state (Tables.global_get x))
-layer m X (Instr-F.GlobalSet x) = Flat (on_state (Tables.global_set x))
+layer m X (Instr-F.GlobalGet x) = Flat (on_store (Tables.global_get x))
+layer m X (Instr-F.GlobalSet x) = Flat (on_store (Tables.global_set x))
 -- "Table Instructions"
-layer m X (Instr-F.TableGet x) = Flat (on_state (Tables.table_get x))
-layer m X (Instr-F.TableSet x) = Flat (on_state (Tables.table_set x))
-layer m X (Instr-F.TableSize x) = Flat (on_state (Tables.table_size x))
-layer m X (Instr-F.TableGrow x) = Flat (on_state (Tables.table_grow x))
-layer m X (Instr-F.TableFill x) = Flat (on_state (Tables.table_fill x))
-layer m X (Instr-F.TableCopy to from) = Flat (on_state (Tables.table_copy to from))
-layer m X (Instr-F.TableInit segment x) = Flat (on_state (Tables.table_init segment x))
-layer m X (Instr-F.ElemDrop segment) = Flat (on_state (Tables.elem_drop segment))
+layer m X (Instr-F.TableGet x) = Flat (on_store (Tables.table_get x))
+layer m X (Instr-F.TableSet x) = Flat (on_store (Tables.table_set x))
+layer m X (Instr-F.TableSize x) = Flat (on_store (Tables.table_size x))
+layer m X (Instr-F.TableGrow x) = Flat (on_growth (Tables.table_grow x))
+layer m X (Instr-F.TableFill x) = Flat (on_store (Tables.table_fill x))
+layer m X (Instr-F.TableCopy to from) = Flat (on_store (Tables.table_copy to from))
+layer m X (Instr-F.TableInit segment x) = Flat (on_store (Tables.table_init segment x))
+layer m X (Instr-F.ElemDrop segment) = Flat (on_store (Tables.elem_drop segment))
 -- "Memory Instructions"
-layer m X (Instr-F.Load op arg) = Flat (on_state (Memories.load_integer op arg))
-layer m X (Instr-F.Store op arg) = Flat (on_state (Memories.store_integer op arg))
-layer m X (Instr-F.LoadVector op arg) = Flat (on_state (Memories.load_vector op arg))
-layer m X (Instr-F.StoreVector arg) = Flat (on_state (Memories.store_vector arg))
-layer m X (Instr-F.LoadLane shape arg lane) = Flat (on_state (Memories.load_lane shape arg lane))
-layer m X (Instr-F.StoreLane shape arg lane) = Flat (on_state (Memories.store_lane shape arg lane))
-layer m X (Instr-F.MemorySize x) = Flat (on_state (Memories.memory_size x))
-layer m X (Instr-F.MemoryGrow x) = Flat (on_state (Memories.memory_grow x))
-layer m X (Instr-F.MemoryFill x) = Flat (on_state (Memories.memory_fill x))
-layer m X (Instr-F.MemoryCopy to from) = Flat (on_state (Memories.memory_copy to from))
-layer m X (Instr-F.MemoryInit segment x) = Flat (on_state (Memories.memory_init segment x))
-layer m X (Instr-F.DataDrop segment) = Flat (on_state (Memories.data_drop segment))
+layer m X (Instr-F.Load op arg) = Flat (on_store (Memories.load_integer op arg))
+layer m X (Instr-F.Store op arg) = Flat (on_store (Memories.store_integer op arg))
+layer m X (Instr-F.LoadVector op arg) = Flat (on_store (Memories.load_vector op arg))
+layer m X (Instr-F.StoreVector arg) = Flat (on_store (Memories.store_vector arg))
+layer m X (Instr-F.LoadLane shape arg lane) = Flat (on_store (Memories.load_lane shape arg lane))
+layer m X (Instr-F.StoreLane shape arg lane) = Flat (on_store (Memories.store_lane shape arg lane))
+layer m X (Instr-F.MemorySize x) = Flat (on_store (Memories.memory_size x))
+layer m X (Instr-F.MemoryGrow x) = Flat (on_growth (Memories.memory_grow x))
+layer m X (Instr-F.MemoryFill x) = Flat (on_store (Memories.memory_fill x))
+layer m X (Instr-F.MemoryCopy to from) = Flat (on_store (Memories.memory_copy to from))
+layer m X (Instr-F.MemoryInit segment x) = Flat (on_store (Memories.memory_init segment x))
+layer m X (Instr-F.DataDrop segment) = Flat (on_store (Memories.data_drop segment))
 -- "Numeric Instructions", "Vector Instructions" and "Reference Instructions"
 layer m X (Instr-F.Pure op) = Flat (on_operands (pure op))
 -- an instruction on floats is in no module that is run

@@ -14,7 +14,7 @@ use Rattle.outcome_kit.specs.Code.{Go, Leave}
 use Rattle.evaluation_kit.specs.Configurations.{Plain, PlainRes}
 use Rattle.evaluation_kit.specs.Leaves.{read_range}
 use Rattle.meaning_new.specs.declared.val.Val.{Val}
-use Rattle.meaning_new.specs.Store.{State, Memory, missing, to_host, from_host, tell}
+use Rattle.meaning_new.specs.Store.{Store, State, Memory, missing, to_host, from_host, tell, with_store}
 use Rattle.meaning_new.specs.Memories.{write_at}
 use Rattle.meaning_new.specs.Tables.{with_global}
 
@@ -23,19 +23,19 @@ abbrev pub export_of : Module → List ℕ → Option ExportDesc
 export_of m name = option_map (λ e. e.desc) (find (λ e. bytes_eq e.name name) m.exports)
 
 -- the values of the exported globals, in export order
-abbrev pub global_value : State → ExportDesc → Option Value
+abbrev pub global_value : Store → ExportDesc → Option Value
 global_value s (exports.Global x) = Some (to_host (slice_index_or s.globals x missing))
 global_value s _ = None
 
 abbrev pub global_values : Module → State → List Value
-global_values m s = filter_map (λ e. global_value s e.desc) m.exports
+global_values m s = filter_map (λ e. global_value s.store e.desc) m.exports
 
 -- a set, a peek and a poke, by what the name exports
 abbrev pub set_export : Option ExportDesc → Value → State → State
-set_export (Some (exports.Global x)) v s = with_global x (from_host v) s
+set_export (Some (exports.Global x)) v s = with_store (with_global x (from_host v) s.store) s
 set_export _ v s = s
 
-abbrev pub exported_memory : Option ExportDesc → State → Option Memory
+abbrev pub exported_memory : Option ExportDesc → Store → Option Memory
 exported_memory (Some (exports.Memory x)) s = slice_get s.memories x
 exported_memory _ s = None
 
@@ -47,18 +47,18 @@ abbrev pub peek : Option Memory → ℕ → ℕ → State → State
 peek None at count s = s
 peek (Some m) at count s = told_bytes (read_range at count m.bytes) s
 
-abbrev pub told_write : Option State → State → State
+abbrev pub told_write : Option Store → State → State
 told_write None s = tell events.OutOfRange s
-told_write (Some after) s = after
+told_write (Some store) s = with_store store s
 
 abbrev pub poke : Option ExportDesc → Option Memory → ℕ → List ℕ → State → State
-poke (Some (exports.Memory x)) (Some m) at bytes s = told_write (write_at x m at bytes s) s
+poke (Some (exports.Memory x)) (Some m) at bytes s = told_write (write_at x m at bytes s.store) s
 poke _ _ at bytes s = s
 
 abbrev pub act : Module → Act → State → State
 act m (Set name v) s = set_export (export_of m name) v s
-act m (Peek name at count) s = peek (exported_memory (export_of m name) s) at count s
-act m (Poke name at bytes) s = poke (export_of m name) (exported_memory (export_of m name) s) at bytes s
+act m (Peek name at count) s = peek (exported_memory (export_of m name) s.store) at count s
+act m (Poke name at bytes) s = poke (export_of m name) (exported_memory (export_of m name) s.store) at bytes s
 
 abbrev pub acts : Module → List Act → State → State
 acts m [] s = s

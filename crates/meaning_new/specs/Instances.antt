@@ -1,7 +1,6 @@
 -- Instantiation ("Modules" of chapter 4, "Instantiation"): globals in order, then tables, element segments and data
 -- segments. Each active segment is written in order; the first that does not fit traps.
 use Rattle.std.specs.Prelude.{ℕ, ◌+◌, ◌*◌, Bool, true, false, List, [], ◌∷◌, ◌++◌, length, map, filter_map, replicate, slice_index_or, Option, Some, None, option_map, option_and_then}
-use Rattle.host_kit.specs.declared.event.Event.TheVariants as events
 use Rattle.host_kit.specs.declared.script.Script.{Script}
 use Rattle.wasm_ast.specs.declared.module.ty.Ty.{Ty}
 use Rattle.wasm_ast.specs.declared.module.ty.Limits.{Limits}
@@ -19,9 +18,9 @@ use Rattle.wasm_ast.specs.declared.module.parts.Module.{Module}
 use Rattle.evaluation_kit.specs.Leaves.{top}
 use Rattle.meaning_new.specs.declared.val.Val.{Val}
 use Rattle.meaning_new.specs.declared.val.Val.TheVariants.{I32, Null}
-use Rattle.meaning_new.specs.Store.{State, Memory, Table, missing, page, from_host, tell}
+use Rattle.meaning_new.specs.Store.{Store, State, Memory, Table, After, missing, page, from_host}
 use Rattle.meaning_new.specs.Numeric.{pure}
-use Rattle.meaning_new.specs.Memories.{After, memory_init, data_drop}
+use Rattle.meaning_new.specs.Memories.{memory_init, data_drop}
 use Rattle.meaning_new.specs.Tables.{table_init, elem_drop}
 
 -- "Constant Expressions", by the globals that are there; what is no instruction of theirs does nothing
@@ -76,17 +75,22 @@ abbrev pub new_tables : Module → List Val → List Table
 new_tables m globals =
     filter_map (λ i. table_import i.desc) m.imports ++ map (λ t. new_table (first_entry globals t.ty t.init) t.limits) m.tables
 
--- the state before any segment is written, within bounds
+-- the store before any segment is written
+abbrev pub new_store : Module → List Val → Store
+new_store m globals = record {
+  globals = globals;
+  memories = new_memories m;
+  tables = new_tables m globals;
+  elems = map (λ e. map (constant globals) e.items) m.elems;
+  datas = map (λ d. d.bytes) m.datas;
+  exceptions = [];
+}
+
+-- the state in which a run begins, within bounds
 abbrev pub new_state : (List ℕ → Bool) → (ℕ → Bool) → Bool → Module → Script → State
 new_state permits room strict m script =
-    let globals = all_values m script in
     record {
-      globals = globals;
-      memories = new_memories m;
-      tables = new_tables m globals;
-      elems = map (λ e. map (constant globals) e.items) m.elems;
-      datas = map (λ d. d.bytes) m.datas;
-      exceptions = [];
+      store = new_store m (all_values m script);
       replies = script.replies;
       grows = script.grows;
       trace = [];
@@ -95,37 +99,37 @@ new_state permits room strict m script =
       strict = strict;
     }
 
--- the state after an instruction that was given these operands
-abbrev pub then : After → (State → Option State) → Option State
+-- the store after an instruction that was given these operands
+abbrev pub then : After → (Store → Option Store) → Option Store
 then None f = None
 then (Some r) f = f r.1
 
-abbrev pub state_of : After → Option State
-state_of o = then o (λ s. Some s)
+abbrev pub store_of : After → Option Store
+store_of o = then o (λ s. Some s)
 
 -- an active segment is copied whole to its offset, and dropped; a declarative one is dropped
 abbrev pub whole : ℕ → Val → List Val
 whole count offset = I32 count ∷ (I32 0 ∷ (offset ∷ []))
 
-abbrev pub place_elem : ℕ → Element → Mode → State → Option State
+abbrev pub place_elem : ℕ → Element → Mode → Store → Option Store
 place_elem i e (Active x offset) s =
-    then (table_init i x (whole (length e.items) (constant s.globals offset)) s) (λ after. state_of (elem_drop i [] after))
+    then (table_init i x (whole (length e.items) (constant s.globals offset)) s) (λ after. store_of (elem_drop i [] after))
 place_elem i e Passive s = Some s
-place_elem i e Declarative s = state_of (elem_drop i [] s)
+place_elem i e Declarative s = store_of (elem_drop i [] s)
 
-abbrev pub place_elems : ℕ → List Element → State → Option State
+abbrev pub place_elems : ℕ → List Element → Store → Option Store
 place_elems i [] s = Some s
 place_elems i (e ∷ more) s = option_and_then (place_elems (i + 1) more) (place_elem i e e.mode s)
 
-abbrev pub place_data : ℕ → Segment → Mode → State → Option State
+abbrev pub place_data : ℕ → Segment → Mode → Store → Option Store
 place_data i d (Active x offset) s =
-    then (memory_init i x (whole (length d.bytes) (constant s.globals offset)) s) (λ after. state_of (data_drop i [] after))
+    then (memory_init i x (whole (length d.bytes) (constant s.globals offset)) s) (λ after. store_of (data_drop i [] after))
 place_data i d _ s = Some s
 
-abbrev pub place_datas : ℕ → List Segment → State → Option State
+abbrev pub place_datas : ℕ → List Segment → Store → Option Store
 place_datas i [] s = Some s
 place_datas i (d ∷ more) s = option_and_then (place_datas (i + 1) more) (place_data i d d.mode s)
 
 -- elements first
-abbrev pub place_segments : Module → State → Option State
+abbrev pub place_segments : Module → Store → Option Store
 place_segments m s = option_and_then (place_datas 0 m.datas) (place_elems 0 m.elems s)

@@ -17,15 +17,15 @@ use Rattle.evaluation_kit.specs.Configurations.{World, Plain, PlainRes}
 use Rattle.evaluation_kit.specs.Languages.{func}
 use Rattle.evaluation_kit.specs.Tasks.{Status, Task, Change, Enter, world_after}
 use Rattle.meaning_new.specs.declared.val.Val.{Val}
-use Rattle.meaning_new.specs.Store.{State, Exception, tell, to_host, from_host}
+use Rattle.meaning_new.specs.Store.{Store, State, Exception, tell, to_host, from_host, with_store}
 use Rattle.meaning_new.specs.Host.{export_of, global_values, act}
 use Rattle.meaning_new.specs.Instances.{new_state, place_segments}
 use Rattle.meaning_new.specs.Language.{language}
 
 -- segments that do not fit end the run
-abbrev pub instantiated : State → Option State → Status State
+abbrev pub instantiated : State → Option Store → Status State
 instantiated s None = Leave Trap (tell events.Failed s)
-instantiated s (Some after) = Go after
+instantiated s (Some store) = Go (with_store store s)
 
 -- the end of the start function: what is not its end ends the run
 abbrev pub started : PlainRes Val State → Status State
@@ -49,7 +49,7 @@ uncaught m i (Some x) s = tell (events.Uncaught i x.tag (map to_host (reverse x.
 
 abbrev pub answered : Module → ℕ → PlainRes Val State → Status State
 answered m i (Go p) = Go (tell (events.Returned i (map to_host (reverse p.operands)) (global_values m p.state)) p.state)
-answered m i (Leave (Throw e) p) = Go (uncaught m i (slice_get p.state.exceptions e) p.state)
+answered m i (Leave (Throw e) p) = Go (uncaught m i (slice_get p.state.store.exceptions e) p.state)
 answered m i (Leave (NoReply x) p) = Leave (NoReply x) (tell (events.NoReply x) p.state)
 answered m i (Leave Full p) = Leave Full (tell events.Full p.state)
 answered m i (Leave Stuck p) = Leave Stuck p.state
@@ -71,7 +71,7 @@ item_tasks m i (item ∷ more) = item_task m i item ∷ item_tasks m (i + 1) mor
 -- all that the host does: it instantiates the module, which runs its start function, and then does the items
 abbrev pub run_tasks : Module → Script → List (Task Val State)
 run_tasks m script =
-    Change (λ s. instantiated s (place_segments m s)) ∷ (start_task m.start ++ (Change (λ s. Go (tell events.Started s)) ∷ item_tasks m 0 script.items))
+    Change (λ s. instantiated s (place_segments m s.store)) ∷ (start_task m.start ++ (Change (λ s. Go (tell events.Started s)) ∷ item_tasks m 0 script.items))
 
 -- the world after the run within so many turns, and within bounds
 abbrev pub end_within : (List ℕ → Bool) → (ℕ → Bool) → Module → Script → ℕ → World State

@@ -1,7 +1,7 @@
 -- What a module of 3.0 works on ("Runtime Structure" of chapter 4: values, the store, memory and table instances), what
 -- its host has left to answer, and what is told of the run.
-use Rattle.std.specs.Prelude.{ℕ, ◌+◌, ◌*◌, ◌/◌, ◌%◌, ◌^◌, Bool, true, false, List, [], ◌∷◌, ◌++◌, map, length, Option, if◌then◌else◌, ◌&&◌}
-use Rattle.host_kit.specs.Trace.{Mark, Shows, Grown, Captured}
+use Rattle.std.specs.Prelude.{ℕ, ◌+◌, ◌*◌, ◌/◌, ◌%◌, ◌^◌, Bool, true, false, List, [], ◌∷◌, ◌++◌, map, length, Option, Some, None, if◌then◌else◌, ◌&&◌}
+use Rattle.host_kit.specs.Trace.{Mark, Shows, Grown}
 use Rattle.host_kit.specs.declared.event.Event.{Event}
 use Rattle.host_kit.specs.declared.script.Reply.{Reply}
 use Rattle.host_kit.specs.declared.value.Value.{Value}
@@ -10,6 +10,9 @@ use Rattle.num_core.specs.declared.operators.Width.{Width}
 use Rattle.num_core.specs.declared.operators.Width.TheVariants.{W32, W64}
 use Rattle.wasm_ast.specs.declared.module.ty.Ty.{Ty}
 use Rattle.wasm_ast.specs.declared.module.ty.Ty.TheVariants as types
+use Rattle.evaluation_kit.specs.declared.jump.Jump.TheVariants.{Trap}
+use Rattle.outcome_kit.specs.Code.{Go, Leave}
+use Rattle.evaluation_kit.specs.Configurations.{Plain, PlainRes}
 use Rattle.evaluation_kit.specs.Leaves.{top, below}
 use Rattle.meaning_new.specs.declared.val.Val.{Val}
 use Rattle.meaning_new.specs.declared.val.Val.TheVariants.{I32, I64, V128, Func, Extern, Exn, Null}
@@ -86,8 +89,8 @@ pub record Exception : Type 0 where
   pub tag : ℕ
   pub payload : List Val
 
--- The store, with what the host has left to answer, what is told of the run, and the bounds of the run.
-pub record State : Type 0 where
+-- The store of one module: all that its code can read or change.
+pub record Store : Type 0 where
   pub globals : List Val
   pub memories : List Memory
   pub tables : List Table
@@ -96,6 +99,10 @@ pub record State : Type 0 where
   pub datas : List (List ℕ)
   -- the exceptions made so far
   pub exceptions : List Exception
+
+-- The store, with what the host has left to answer, what is told of the run, and the bounds of the run.
+pub record State : Type 0 where
+  pub store : Store
   -- for each imported function the replies that the host has left, and its answers to growths that are left
   pub replies : List (List Reply)
   pub grows : List Bool
@@ -122,15 +129,45 @@ abbrev pub page_count : Memory → ℕ
 page_count m = length m.bytes / page
 
 -- the sizes of all memories and tables
-abbrev pub sizes : State → List ℕ
+abbrev pub sizes : Store → List ℕ
 sizes s = map page_count s.memories ++ map (λ t. length t.entries) s.tables
 
--- "Growing Memories" and "Growing Tables": a growth takes the next answer, true after their end, and succeeds where its
--- limits hold and the answer is true. What stands beside the state is whether it did
-abbrev pub grown : Bool → State → State → State
-grown ok larger s =
-    let after = if ok then larger else s in
-    record after { grows = below s.grows; trace = s.trace ++ Grown ok (sizes after) ∷ [] }
+-- An instruction on operands and the store: what they become, or none where it traps
+abbrev pub After : Type 0
+After = Option (List Val × Store)
 
-abbrev pub is_granted : Bool → State → State → Bool
-is_granted fits larger s = fits && top true s.grows && s.permits (sizes larger)
+abbrev pub with_store : Store → State → State
+with_store store s = record s { store = store }
+
+abbrev pub store_or_trap : Plain Val State → After → PlainRes Val State
+store_or_trap p None = Leave Trap p
+store_or_trap p (Some r) = Go (record p { operands = r.0; state = with_store r.1 p.state })
+
+abbrev pub on_store : (List Val → Store → After) → Plain Val State → PlainRes Val State
+on_store f p = store_or_trap p (f p.operands p.state.store)
+
+-- "Growing Memories" and "Growing Tables": whether the limits hold, the store with the larger memory or table, and the
+-- operands after it, by whether it succeeds
+pub record Growth : Type 0 where
+  pub fits : Bool
+  pub larger : Store
+  pub operands : Bool → List Val
+
+-- A growth takes the next answer, true after their end, and succeeds where its limits hold and the answer is true; a
+-- bounded run permits only some sizes. It is told of with the sizes after it
+abbrev pub is_granted : Growth → State → Bool
+is_granted g s = g.fits && (top true s.grows && s.permits (sizes g.larger))
+
+abbrev pub told_growth : Bool → Store → State → State
+told_growth ok store s = record s { store = store; grows = below s.grows; trace = s.trace ++ Grown ok (sizes store) ∷ [] }
+
+abbrev pub settled_growth : Bool → Growth → Plain Val State → PlainRes Val State
+settled_growth ok g p =
+    Go (record p { operands = g.operands ok; state = told_growth ok (if ok then g.larger else p.state.store) p.state })
+
+abbrev pub growth_or_trap : Plain Val State → Option Growth → PlainRes Val State
+growth_or_trap p None = Leave Trap p
+growth_or_trap p (Some g) = settled_growth (is_granted g p.state) g p
+
+abbrev pub on_growth : (List Val → Store → Option Growth) → Plain Val State → PlainRes Val State
+on_growth f p = growth_or_trap p (f p.operands p.state.store)
