@@ -1,6 +1,6 @@
 -- "Memory Instructions", and "Variable Instructions" on globals, of chapter 4 of 1.0: what operands and store become, or
 -- none where the instruction traps. A module of 1.0 has one memory, with index 0.
-use Rattle.std.specs.Prelude.{ℕ, ◌+◌, ◌-◌, ◌*◌, ◌^◌, Bool, true, ◌&&◌, nat_le, if◌then◌else◌, List, [], ◌∷◌, ◌++◌, replicate, set, slice_get, slice_index_or, Option, Some, None, option_map, option_and_then}
+use Rattle.std.specs.Prelude.{ℕ, ◌+◌, ◌-◌, ◌*◌, ◌^◌, Bool, nat_le, if◌then◌else◌, List, [], ◌∷◌, ◌++◌, replicate, set, slice_get, slice_index_or, Option, Some, None, option_map, option_and_then}
 use Rattle.num_core.specs.declared.operators.Load.{Load}
 use Rattle.num_core.specs.declared.operators.Store.{Store}
 use Rattle.num_core.specs.Accesses.{load_width, load_bytes}
@@ -9,12 +9,8 @@ use Rattle.core1_ast.specs.declared.module.immediates.MemArg1.{MemArg1}
 use Rattle.evaluation_kit.specs.Leaves.{top, below, read_range, write_range}
 use Rattle.meaning_core1.specs.declared.val1.Val1.{Val1}
 use Rattle.meaning_core1.specs.declared.val1.Val1.TheVariants.{I32}
-use Rattle.meaning_core1.specs.Store.{Store1, Memory1, absent, value_of, page_bytes, pages1, told_growth}
+use Rattle.meaning_core1.specs.Store.{Store1, Memory1, Effect, Growth1, absent, value_of, page_bytes, pages1}
 use Rattle.meaning_core1.specs.Operators.{top1, next1}
-
--- what an instruction makes of operands and store
-abbrev pub Effect : Type 0
-Effect = Option (List Val1 × Store1)
 
 -- global.get and global.set
 abbrev pub get_global1 : ℕ → List Val1 → Store1 → Effect
@@ -46,20 +42,17 @@ store1 op arg operands s =
 abbrev pub size1 : List Val1 → Store1 → Effect
 size1 operands s = with_memory s (λ m. Some (I32 (pages1 m) ∷ operands, s))
 
--- memory.grow: it takes the next answer, true after their end, and succeeds where the limit holds and the answer is true
+-- memory.grow: the old size, or all ones
 abbrev pub page_limit : Option ℕ → ℕ
 page_limit None = 2 ^ 16
 page_limit (Some max) = if nat_le max (2 ^ 16) then max else 2 ^ 16
 
-abbrev pub grow_granted : Memory1 → ℕ → Store1 → Bool
-grow_granted m pages s = nat_le (pages1 m + pages) (page_limit m.max) && top true s.grows
+abbrev pub memory_growth1 : List Val1 → Store1 → Memory1 → Growth1
+memory_growth1 operands s m = record {
+  fits = nat_le (pages1 m + top1 operands) (page_limit m.max);
+  larger = put_bytes 0 m (m.bytes ++ replicate (top1 operands * page_bytes) 0) s;
+  operands = λ ok. I32 (if ok then pages1 m else 2 ^ 32 - 1) ∷ below operands;
+}
 
-abbrev pub grown_store : Bool → Memory1 → ℕ → Store1 → Store1
-grown_store ok m pages s = if ok then put_bytes 0 m (m.bytes ++ replicate (pages * page_bytes) 0) s else s
-
-abbrev pub grow1 : List Val1 → Store1 → Effect
-grow1 operands s =
-    with_memory s (λ m.
-      let pages = top1 operands in
-      let ok = grow_granted m pages s in
-      Some (I32 (if ok then pages1 m else 2 ^ 32 - 1) ∷ below operands, told_growth ok (grown_store ok m pages s)))
+abbrev pub grow1 : List Val1 → Store1 → Option Growth1
+grow1 operands s = option_map (memory_growth1 operands s) (slice_get s.memories 0)

@@ -19,9 +19,9 @@ use Rattle.evaluation_kit.specs.Control.{Function, Callee, Own, Host}
 use Rattle.evaluation_kit.specs.Forms.{Form, Flat, Enclose, Repeat, Choose, Invoke, InvokeBy, map_form}
 use Rattle.evaluation_kit.specs.Languages.{Tree, Language}
 use Rattle.evaluation_kit.specs.Leaves as leaves
-use Rattle.evaluation_kit.specs.Leaves.{on_operands, on_state}
+use Rattle.evaluation_kit.specs.Leaves.{on_operands}
 use Rattle.meaning_core1.specs.declared.val1.Val1.{Val1}
-use Rattle.meaning_core1.specs.Store.{Store1, absent, zero_of_type}
+use Rattle.meaning_core1.specs.Store.{State1, absent, zero_of_type, by_store, by_growth}
 use Rattle.meaning_core1.specs.Operators.{top1, pure_op, is_true, dropped, selected}
 use Rattle.meaning_core1.specs.Accesses.{get_global1, set_global1, load1, store1, size1, grow1}
 use Rattle.meaning_core1.specs.Hosting.{call_host}
@@ -58,12 +58,12 @@ abbrev pub typed_as : Module1 → ℕ → Option ℕ → Option ℕ
 typed_as m t None = None
 typed_as m t (Some f) = if equal_func_types (func_type1 m f) (slice_get m.types t) then Some f else None
 
-abbrev pub pick1 : Module1 → ℕ → Plain Val1 Store1 → Option ℕ
+abbrev pub pick1 : Module1 → ℕ → Plain Val1 State1 → Option ℕ
 pick1 m t p =
-    option_and_then (typed_as m t) (option_and_then (λ entries. slice_get entries (top1 p.operands)) (slice_get p.state.tables 0))
+    option_and_then (typed_as m t) (option_and_then (λ entries. slice_get entries (top1 p.operands)) (slice_get p.state.store.tables 0))
 
 -- an instruction, whose bodies hold anything
-abbrev pub layer1 : Module1 → (X : Type 0) → Instr1-F X → Form Val1 Store1 X
+abbrev pub layer1 : Module1 → (X : Type 0) → Instr1-F X → Form Val1 State1 X
 -- "Numeric Instructions"
 layer1 m X (Instr1-F.Pure op) = Flat (on_operands (pure_op op))
 -- "Parametric Instructions"
@@ -73,13 +73,13 @@ layer1 m X Instr1-F.Select = Flat (on_operands selected)
 layer1 m X (Instr1-F.LocalGet x) = Flat (leaves.get_local absent x)
 layer1 m X (Instr1-F.LocalSet x) = Flat (leaves.set_local absent x)
 layer1 m X (Instr1-F.LocalTee x) = Flat (leaves.tee_local absent x)
-layer1 m X (Instr1-F.GlobalGet x) = Flat (on_state (get_global1 x))
-layer1 m X (Instr1-F.GlobalSet x) = Flat (on_state (set_global1 x))
+layer1 m X (Instr1-F.GlobalGet x) = Flat (by_store (get_global1 x))
+layer1 m X (Instr1-F.GlobalSet x) = Flat (by_store (set_global1 x))
 -- "Memory Instructions"
-layer1 m X (Instr1-F.Load op arg) = Flat (on_state (load1 op arg))
-layer1 m X (Instr1-F.Store op arg) = Flat (on_state (store1 op arg))
-layer1 m X Instr1-F.MemorySize = Flat (on_state size1)
-layer1 m X Instr1-F.MemoryGrow = Flat (on_state grow1)
+layer1 m X (Instr1-F.Load op arg) = Flat (by_store (load1 op arg))
+layer1 m X (Instr1-F.Store op arg) = Flat (by_store (store1 op arg))
+layer1 m X Instr1-F.MemorySize = Flat (by_store size1)
+layer1 m X Instr1-F.MemoryGrow = Flat (by_growth grow1)
 -- "Control Instructions"
 layer1 m X Instr1-F.Nop = Flat leaves.nothing
 layer1 m X Instr1-F.Unreachable = Flat (leaves.jump jumps.Trap)
@@ -102,13 +102,13 @@ function1 t body = record { params = length t.params; results = length t.results
 abbrev pub imported_count : Module1 → ℕ
 imported_count m = length (filter_map (λ i. func_import i.desc) m.imports)
 
-abbrev pub callee_as : Module1 → ℕ → FuncType1 → Option (Callee Instr1 Val1 Store1)
+abbrev pub callee_as : Module1 → ℕ → FuncType1 → Option (Callee Instr1 Val1 State1)
 callee_as m x t =
     if nat_lt x (imported_count m)
     then Some (Host (length t.params) (call_host m x))
     else option_map (λ body. Own (function1 t body)) (slice_get m.codes (x - imported_count m))
 
-abbrev pub callee1 : Module1 → ℕ → Option (Callee Instr1 Val1 Store1)
+abbrev pub callee1 : Module1 → ℕ → Option (Callee Instr1 Val1 State1)
 callee1 m x = option_and_then (callee_as m x) (func_type1 m x)
 
 pub map_map : {X Y Z : Type 0} (f : X → Y) (g : Y → Z) (xs : List X) → map g (map f xs) ≡ map (λ x. g (f x)) xs
@@ -143,7 +143,7 @@ layer_over1 m X Y f Instr1-F.Nop = refl
 layer_over1 m X Y f l = refl
 
 -- the language in which a module is written
-abbrev pub language1 : Module1 → Language Instr1 Instr1-F Val1 Store1
+abbrev pub language1 : Module1 → Language Instr1 Instr1-F Val1 State1
 language1 m = record {
   tree = tree1;
   layer = layer1 m;

@@ -13,3 +13,6 @@ pub mod Operators
 pub mod Accesses
 pub mod Hosting
 pub mod Language
+pub mod Instances
+pub mod Runs
+pub mod Fits
