@@ -1,5 +1,5 @@
 -- Exceptions ("Control Instructions" of chapter 4: throw, throw_ref, try_table).
-use Rattle.std.specs.Prelude.{ℕ, Bool, ◌==◌, if◌then◌else◌, List, [], ◌∷◌, ◌++◌, length, take, drop, slice_get, Option, Some, None}
+use Rattle.std.specs.Prelude.{ℕ, Bool, true, false, ◌==◌, find, List, [], ◌∷◌, ◌++◌, length, take, drop, slice_get, Option, Some, None}
 use Rattle.host_kit.specs.Trace.{Captured, captured}
 use Rattle.wasm_ast.specs.declared.module.immediates.Catch.{Catch}
 use Rattle.wasm_ast.specs.declared.module.immediates.Catch.TheVariants as catches
@@ -32,23 +32,33 @@ throw_ref p = thrown (top missing p.operands) (record p { operands = below p.ope
 abbrev pub catch : ℕ → List Val → State → Option (Caught Val State)
 catch label operands s = Some (record { jump = Branch label; operands = operands; state = s })
 
+abbrev pub caught_ref : Bool → ℕ → ℕ → List Val → State → Option (Caught Val State)
+caught_ref true e label operands s = Some (record { jump = Branch label; operands = Exn e ∷ operands; state = mark Captured s })
+caught_ref false e label operands s = Some (record { jump = Full; operands = []; state = s })
+
 abbrev pub catch_ref : ℕ → ℕ → List Val → State → Option (Caught Val State)
 catch_ref e label operands s =
-    if s.room (captured s.trace)
-    then Some (record { jump = Branch label; operands = Exn e ∷ operands; state = mark Captured s })
-    else Some (record { jump = Full; operands = []; state = s })
+    caught_ref (s.room (captured s.trace)) e label operands s
 
--- the first clause that takes the exception; its label is counted from outside the try_table
-abbrev pub caught : List Catch → ℕ → Exception → State → Option (Caught Val State)
-caught [] e x s = None
-caught (catches.Tag tag label ∷ more) e x s = if x.tag == tag then catch label x.payload s else caught more e x s
-caught (catches.TagRef tag label ∷ more) e x s = if x.tag == tag then catch_ref e label x.payload s else caught more e x s
-caught (catches.All label ∷ more) e x s = catch label [] s
-caught (catches.AllRef label ∷ more) e x s = catch_ref e label [] s
+-- whether a clause takes an exception of a tag
+abbrev pub takes : ℕ → Catch → Bool
+takes tag (catches.Tag x label) = tag == x
+takes tag (catches.TagRef x label) = tag == x
+takes tag (catches.All label) = true
+takes tag (catches.AllRef label) = true
 
-abbrev pub caught_if : Option Exception → List Catch → ℕ → State → Option (Caught Val State)
-caught_if None clauses e s = None
-caught_if (Some x) clauses e s = caught clauses e x s
+-- what a clause makes of an exception; its label is counted from outside the try_table
+abbrev pub caught_by : Option Catch → ℕ → Exception → State → Option (Caught Val State)
+caught_by None e x s = None
+caught_by (Some (catches.Tag tag label)) e x s = catch label x.payload s
+caught_by (Some (catches.TagRef tag label)) e x s = catch_ref e label x.payload s
+caught_by (Some (catches.All label)) e x s = catch label [] s
+caught_by (Some (catches.AllRef label)) e x s = catch_ref e label [] s
+
+-- the first clause that takes the exception of a number
+abbrev pub caught : Option Exception → List Catch → ℕ → State → Option (Caught Val State)
+caught None clauses e s = None
+caught (Some x) clauses e s = caught_by (find (takes x.tag) clauses) e x s
 
 abbrev pub handler : List Catch → Handler Val State
-handler clauses e s = caught_if (slice_get s.store.exceptions e) clauses e s
+handler clauses e s = caught (slice_get s.store.exceptions e) clauses e s
