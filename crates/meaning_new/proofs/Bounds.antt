@@ -1,6 +1,6 @@
 -- The laws of runs as the kit asks for them: which states lead to which, what every state keeps, where a run's own answers
 -- stand, and where its bounds do. And what even instructions give to each.
-use Rattle.std.proofs.Common.{◌≡◌, ℕ, ◌≤◌, Bool, true, List, [], ◌∷◌, ◌++◌, map, Option, Some, None, refl, sym, ap, ◌∙◌, subst, append_assoc, inl}
+use Rattle.std.proofs.Common.{◌≡◌, ℕ, ◌≤◌, Bool, true, List, [], ◌∷◌, ◌++◌, map, Option, Some, None, refl, sym, ap, ◌∙◌, subst, append_assoc, ◌⊎◌, inl, inr}
 use Rattle.std.specs.Prelude.{nat_lt}
 use Rattle.std.specs.List.{AllByRecursion}
 use Rattle.host_kit.specs.Trace.{Mark, Shows, Captured, Begins, seen, answers, captured, cut}
@@ -53,6 +53,8 @@ AtFull N j s = Unit {0}
 
 pub record Counted (N : ℕ) (s : State) : Type 0 where
   pub few : captured s.trace ≤ N
+  -- a full store is shown after exactly N
+  pub exact : AllByRecursion NotFull s.trace ⊎ (captured s.trace ≡ N)
   pub room : (k : ℕ) → s.room k ≡ nat_lt k N
 
 abbrev pub counted : ℕ → Kept State
@@ -116,7 +118,15 @@ pub roomy_even : (s t : State) → Even s t → Roomy s → Roomy t
 roomy_even s t e h = record { room = λ k. ap (λ f. f k) e.room ∙ h.room k; clean = e.not_full h.clean }
 
 pub counted_even : (N : ℕ) (s t : State) → Even s t → Counted N s → Counted N t
-counted_even N s t e h = record { few = subst (λ k. k ≤ N) (sym e.captures) h.few; room = λ k. ap (λ f. f k) e.room ∙ h.room k }
+counted_even N s t e h = record {
+  few = subst (λ k. k ≤ N) (sym e.captures) h.few;
+  exact = exact_even h.exact;
+  room = λ k. ap (λ f. f k) e.room ∙ h.room k;
+}
+  where
+    exact_even : AllByRecursion NotFull s.trace ⊎ (captured s.trace ≡ N) → AllByRecursion NotFull t.trace ⊎ (captured t.trace ≡ N)
+    exact_even (inl clean) = inl (e.not_full clean)
+    exact_even (inr same) = inr (e.captures ∙ same)
 
 pub open_even : (permits : List ℕ → Bool) (room : ℕ → Bool) (s t : State) → Even s t → Open permits room s → Open permits room t
 open_even permits room s t e h = record {

@@ -43,10 +43,13 @@ growth_roomy p (Some g) h = record {
 
 growth_counted : (N : ℕ) (p : Plain Val State) (o : Option Growth) → Counted N p.state → PlainAfter (counted N) (growth_or_trap p o)
 growth_counted N p None h = record { always = h; at_jump = tt }
-growth_counted N p (Some g) h = record {
-  few = subst (λ k. k ≤ N) (sym (captured-grown p.state.trace (is_granted g p.state) (sizes (after (is_granted g p.state) g p.state.store)))) h.few;
-  room = h.room;
-}
+growth_counted N p (Some g) h =
+    let same = captured-grown p.state.trace (is_granted g p.state) (sizes (after (is_granted g p.state) g p.state.store)) in
+    record { few = subst (λ k. k ≤ N) (sym same) h.few; exact = exact_grown same h.exact; room = h.room }
+  where
+    exact_grown : captured (p.state.trace ++ Grown (is_granted g p.state) (sizes (after (is_granted g p.state) g p.state.store)) ∷ []) ≡ captured p.state.trace → AllByRecursion NotFull p.state.trace ⊎ (captured p.state.trace ≡ N) → AllByRecursion NotFull (p.state.trace ++ Grown (is_granted g p.state) (sizes (after (is_granted g p.state) g p.state.store)) ∷ []) ⊎ (captured (p.state.trace ++ Grown (is_granted g p.state) (sizes (after (is_granted g p.state) g p.state.store)) ∷ []) ≡ N)
+    exact_grown same (inl clean) = inl (all_append NotFull p.state.trace (Grown (is_granted g p.state) (sizes (after (is_granted g p.state) g p.state.store))) clean (λ e. cc))
+    exact_grown same (inr full) = inr (same ∙ full)
 
 growth_again : (p : Plain Val State) (o : Option Growth) (a t : List Bool) → answers (seen (state_after (growth_or_trap p o)).trace) ≡ answers (seen p.state.trace) ++ a → (growth_or_trap (free_plain answering (a ++ t) p) o ≡ freed_plain answering t (growth_or_trap p o)) ⊎ PastPlain answering (growth_or_trap p o) (growth_or_trap (free_plain answering (a ++ t) p) o)
 growth_again p None a t e = inl (ap (λ l. Leave Trap (free_plain answering (l ++ t) p)) (no_more (answers (seen p.state.trace)) a e))

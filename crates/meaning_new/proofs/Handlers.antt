@@ -97,9 +97,13 @@ not_less k N e le = grind (arith, e)
 
 ref_counted : (N : ℕ) (b : Bool) (e label : ℕ) (operands : List Val) (s : State) → nat_lt (captured s.trace) N ≡ b → Counted N s → CaughtKeeps (counted N) (caught_ref b e label operands s)
 ref_counted N true e label operands s h r = record {
-  always = record { few = subst (λ k. k ≤ N) (sym (captured-captured s.trace)) (less (captured s.trace) N h); room = r.room };
+  always = record { few = subst (λ k. k ≤ N) (sym (captured-captured s.trace)) (less (captured s.trace) N h); exact = inl (all_append NotFull s.trace Captured (still_clean r.exact) (λ eq. cc)); room = r.room };
   at_jump = tt;
 }
+  where
+    still_clean : AllByRecursion NotFull s.trace ⊎ (captured s.trace ≡ N) → AllByRecursion NotFull s.trace
+    still_clean (inl clean) = clean
+    still_clean (inr full) = let more = less (captured s.trace) N h in let no : ⊥ = omega (arith, full, more) in absurd no
 ref_counted N false e label operands s h r = record { always = r; at_jump = not_less (captured s.trace) N h r.few }
 
 way_counted : (N : ℕ) (w : Way) (s : State) → Counted N s → CaughtKeeps (counted N) (by_way w s)

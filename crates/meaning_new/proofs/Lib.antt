@@ -4,3 +4,4 @@ pub mod EvenLeaves
 pub mod Bounds
 pub mod Growths
 pub mod Handlers
+pub mod Owed
