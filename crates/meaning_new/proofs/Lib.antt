@@ -5,3 +5,5 @@ pub mod Bounds
 pub mod Growths
 pub mod Handlers
 pub mod Owed
+pub mod HostTasks
+pub mod RunLaws

@@ -18,3 +18,4 @@ pub mod Instances
 pub mod Language
 pub mod Runs
 pub mod Fits
+pub mod RunLaws
