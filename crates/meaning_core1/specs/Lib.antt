@@ -8,3 +8,11 @@ pub mod Interface
 pub mod Covered
 pub mod Laws
 pub mod Example
+pub mod Store
+pub mod Operators
+pub mod Accesses
+pub mod Hosting
+pub mod Language
+pub mod Instances
+pub mod Runs
+pub mod Fits

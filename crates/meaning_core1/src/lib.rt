@@ -1,4 +1,7 @@
-// What modules of WebAssembly 1.0 do under a script, as definitions, and the laws that every run keeps.
+// What a module of WebAssembly 1.0 does under a script, as definitions, and the laws that every run keeps.
 #![tactic(auto)]
 
 pub mod laws;
+mod val1;
+
+pub use val1::Val1;

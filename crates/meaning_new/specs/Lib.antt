@@ -7,3 +7,15 @@ pub mod Fitting
 pub mod Interface
 pub mod Laws
 pub mod Example
+pub mod Store
+pub mod Numeric
+pub mod Memories
+pub mod Tables
+pub mod Exceptions
+pub mod Host
+pub mod Forms
+pub mod Instances
+pub mod Language
+pub mod Runs
+pub mod Fits
+pub mod RunLaws

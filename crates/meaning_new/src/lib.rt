@@ -2,3 +2,7 @@
 #![tactic(auto)]
 
 pub mod laws;
+pub mod run_laws;
+mod val;
+
+pub use val::Val;

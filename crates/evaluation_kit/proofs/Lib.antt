@@ -1,0 +1,12 @@
+pub mod Closure
+pub mod Loops
+pub mod Parts
+pub mod Whole
+pub mod Agreement
+pub mod Functions
+pub mod Tasks
+pub mod Growing
+pub mod Invariants
+pub mod Replaying
+pub mod Cutting
+pub mod TaskLaws
