@@ -139,18 +139,18 @@ module _ {S : Type 0} (A : Answering S) where
     shown_replays N r w = record {
       onward = λ n le. subst (λ s. A.Leads w.state s) (sym (shown_state w r)) (subst (λ s. A.Leads s (status_state (see (seen w r)))) (seen_state w r) (h.leads (seen w r)));
       stops = λ e n le.
-        let over = over_full w r e in
-        record {
-          result = Leave Full (record w { state = over.state });
-          is_done = ap (λ x. Done 0 x) (shown_is w r ∙ ap (placed w) over.is_full);
-          beyond = λ s b. over.beyond s b;
-          full = refl;
-        };
+          let over = over_full w r e in
+          record {
+            result = Leave Full (record w { state = over.state });
+            is_done = ap (λ x. Done 0 x) (shown_is w r ∙ ap (placed w) over.is_full);
+            beyond = λ s b. over.beyond s b;
+            full = refl;
+          };
       replays = λ n le a t e.
-        let told = sym (ap A.told (shown_state w r)) ∙ e ∙ ap (λ s. A.told s ++ a) (sym (seen_state w r)) in
-        let same : see (seen (free_world A (a ++ t) w) r) ≡ freed_status t (see (seen w r)) = ap see (seen_free w (a ++ t) r) ∙ h.again (seen w r) a t told in
-        subst (λ x. Replayed A status_place t (Done 0 x) (Done 0 (shown see (res_put (free_world A (a ++ t) w) r)))) (sym (shown_is w r))
-        (subst (λ x. Replayed A status_place t (Done 0 (placed w (see (seen w r)))) (Done 0 x)) (sym (shown_is (free_world A (a ++ t) w) r))
+          let told = sym (ap A.told (shown_state w r)) ∙ e ∙ ap (λ s. A.told s ++ a) (sym (seen_state w r)) in
+          let same : see (seen (free_world A (a ++ t) w) r) ≡ freed_status t (see (seen w r)) = ap see (seen_free w (a ++ t) r) ∙ h.again (seen w r) a t told in
+          subst (λ x. Replayed A status_place t (Done 0 x) (Done 0 (shown see (res_put (free_world A (a ++ t) w) r)))) (sym (shown_is w r))
+          (subst (λ x. Replayed A status_place t (Done 0 (placed w (see (seen w r)))) (Done 0 x)) (sym (shown_is (free_world A (a ++ t) w) r))
           (placed_again w (a ++ t) t (see (seen w r)) (see (seen (free_world A (a ++ t) w) r)) same));
     }
 

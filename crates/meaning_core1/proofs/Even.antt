@@ -299,7 +299,7 @@ answer_here m x None s = record { even = even_itself s; again = λ g. refl; not_
 pub even_host : (m : Module1) (x : ℕ) → EvenAct (call_host m x)
 even_host m x = record {
   here = λ p.
-    let s = show (events.HostCall x (map host_value (reverse p.operands)) (exported_values m p.state)) p.state in
-    let rest = answer_here m x (slice_get p.state.replies x) s in
-    record { even = even_trans p.state s _ (even_show _ p.state (λ e. cc)) rest.even; again = rest.again; not_full = rest.not_full };
+      let s = show (events.HostCall x (map host_value (reverse p.operands)) (exported_values m p.state)) p.state in
+      let rest = answer_here m x (slice_get p.state.replies x) s in
+      record { even = even_trans p.state s _ (even_show _ p.state (λ e. cc)) rest.even; again = rest.again; not_full = rest.not_full };
 }

@@ -98,8 +98,8 @@ pub record Parted (permits : List ℕ → Bool) (room : ℕ → Bool) (s t : Sta
 pub parted_stays : (permits : List ℕ → Bool) (room : ℕ → Bool) (s t a b : State) → Parted permits room s t → Begins s.trace a.trace → Begins t.trace b.trace → Parted permits room a b
 parted_stays permits room s t a b p l l' = record {
   front = λ more.
-    let same : cut permits room 0 (s.trace ++ (l.0 ++ more)) ≡ cut permits room 0 (a.trace ++ more) = ap (cut permits room 0) (sym (append_assoc s.trace l.0 more) ∙ ap (λ x. x ++ more) l.1) in
-    subst (λ x. Begins x b.trace) same (begins_trans (cut permits room 0 (s.trace ++ (l.0 ++ more))) t.trace b.trace (p.front (l.0 ++ more)) l');
+      let same : cut permits room 0 (s.trace ++ (l.0 ++ more)) ≡ cut permits room 0 (a.trace ++ more) = ap (cut permits room 0) (sym (append_assoc s.trace l.0 more) ∙ ap (λ x. x ++ more) l.1) in
+      subst (λ x. Begins x b.trace) same (begins_trans (cut permits room 0 (s.trace ++ (l.0 ++ more))) t.trace b.trace (p.front (l.0 ++ more)) l');
 }
 
 abbrev pub bounding : (List ℕ → Bool) → (ℕ → Bool) → Bounding State
@@ -172,6 +172,8 @@ module _ (act : Plain Val State → PlainRes Val State) (h : EvenAct act) where
   pub even_cuts : (permits : List ℕ → Bool) (room : ℕ → Bool) → ActCuts (bounding permits room) act
   even_cuts permits room = record {
     leads = even_leads;
-    cuts = λ p fine. inl (open_even permits room p.state (state_after (act p)) (h.even p) fine,
-      h.redialed p.state.grows permits room p ∙ bounded_redial permits room p.state.grows (act p) (h.even p).grows);
+    cuts = λ p fine. inl (
+      open_even permits room p.state (state_after (act p)) (h.even p) fine,
+      h.redialed p.state.grows permits room p ∙ bounded_redial permits room p.state.grows (act p) (h.even p).grows,
+    );
   }

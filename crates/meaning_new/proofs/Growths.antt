@@ -77,9 +77,9 @@ module _ (permits : List ℕ → Bool) (room : ℕ → Bool) where
   parted_grown : (g : Growth) (s : State) (last : Mark) → permits (sizes g.larger) ≡ false → cut permits room 0 s.trace ≡ s.trace → (more : List Mark) → Begins (cut permits room 0 ((s.trace ++ Grown true (sizes g.larger) ∷ []) ++ more)) (s.trace ++ last ∷ [])
   parted_grown g s last k h more =
       let cut_there = ap (cut permits room 0) (append_assoc s.trace (Grown true (sizes g.larger) ∷ []) more)
-          ∙ cut-append permits room 0 s.trace (Grown true (sizes g.larger) ∷ more) h
-          ∙ ap (λ b. s.trace ++ (if b then Grown true (sizes g.larger) ∷ cut permits room (0 + captured s.trace) more else [])) k
-          ∙ append-nil s.trace in
+      ∙ cut-append permits room 0 s.trace (Grown true (sizes g.larger) ∷ more) h
+      ∙ ap (λ b. s.trace ++ (if b then Grown true (sizes g.larger) ∷ cut permits room (0 + captured s.trace) more else [])) k
+      ∙ append-nil s.trace in
       subst (λ l. Begins l (s.trace ++ last ∷ [])) (sym cut_there) (begins_append s.trace (last ∷ []))
 
   growth_cuts : (p : Plain Val State) (o : Option Growth) → Open permits room p.state → (Open permits room (state_after (growth_or_trap p o)) × (growth_or_trap (bound_plain (bounding permits room) p) o ≡ bounded_plain (bounding permits room) (growth_or_trap p o))) ⊎ Parted permits room (state_after (growth_or_trap p o)) (state_after (growth_or_trap (bound_plain (bounding permits room) p) o))

@@ -138,12 +138,12 @@ pub handler_replays : (clauses : List Catch) → HandlerReplays answering (handl
 handler_replays clauses = record {
   leads = λ e s. caught_leads s (handler clauses e s) (handler_leads clauses e s);
   again = λ e s a t told.
-    let w = way (slice_get s.store.exceptions e) clauses e in
-    let here = handler_is (slice_get s.store.exceptions e) clauses e s in
-    let free = redial (a ++ t) any_sizes any_room s in
-    let there = handler_is (slice_get s.store.exceptions e) clauses e free in
-    subst (λ k. (handler clauses e free ≡ freed_caught answering t k) ⊎ PastCaught answering k (replaying.caught_state answering free (handler clauses e free))) here
-    (subst (λ k. (k ≡ freed_caught answering t (by_way w s)) ⊎ PastCaught answering (by_way w s) (replaying.caught_state answering free k)) there
+      let w = way (slice_get s.store.exceptions e) clauses e in
+      let here = handler_is (slice_get s.store.exceptions e) clauses e s in
+      let free = redial (a ++ t) any_sizes any_room s in
+      let there = handler_is (slice_get s.store.exceptions e) clauses e free in
+      subst (λ k. (handler clauses e free ≡ freed_caught answering t k) ⊎ PastCaught answering k (replaying.caught_state answering free (handler clauses e free))) here
+      (subst (λ k. (k ≡ freed_caught answering t (by_way w s)) ⊎ PastCaught answering (by_way w s) (replaying.caught_state answering free k)) there
       (way_again w s a t (ap (λ k. answers (seen (replaying.caught_state answering s k).trace)) here ∙ told)));
 }
 
@@ -155,12 +155,12 @@ module _ (permits : List ℕ → Bool) (room : ℕ → Bool) where
       inl (record { sizes = fine.sizes; captures = fine.captures; whole = there }, refl)
   ref_cuts true false e label operands s h k fine = inr (record {
     front = λ more.
-      let there = ap (cut permits room 0) (append_assoc s.trace (Captured ∷ []) more)
-          ∙ cut-append permits room 0 s.trace (Captured ∷ more) fine.whole
-          ∙ ap (λ i. s.trace ++ (if room i then Captured ∷ cut permits room (0 + captured s.trace + 1) more else [])) (grind arith)
-          ∙ ap (λ b. s.trace ++ (if b then Captured ∷ cut permits room (0 + captured s.trace + 1) more else [])) k
-          ∙ append-nil s.trace in
-      subst (λ l. Begins l s.trace) (sym there) (begins_same s.trace);
+        let there = ap (cut permits room 0) (append_assoc s.trace (Captured ∷ []) more)
+        ∙ cut-append permits room 0 s.trace (Captured ∷ more) fine.whole
+        ∙ ap (λ i. s.trace ++ (if room i then Captured ∷ cut permits room (0 + captured s.trace + 1) more else [])) (grind arith)
+        ∙ ap (λ b. s.trace ++ (if b then Captured ∷ cut permits room (0 + captured s.trace + 1) more else [])) k
+        ∙ append-nil s.trace in
+        subst (λ l. Begins l s.trace) (sym there) (begins_same s.trace);
   })
   ref_cuts false r e label operands s h k fine = absurd cc
 
@@ -177,11 +177,11 @@ module _ (permits : List ℕ → Bool) (room : ℕ → Bool) where
   handler_cuts clauses = record {
     leads = λ e s. cut_leads s (handler clauses e s) (handler_leads clauses e s);
     cuts = λ e s fine.
-      let w = way (slice_get s.store.exceptions e) clauses e in
-      let here = handler_is (slice_get s.store.exceptions e) clauses e s in
-      let bounded = redial s.grows permits room s in
-      let there = handler_is (slice_get s.store.exceptions e) clauses e bounded in
-      subst (λ k. (Open permits room (cutting.caught_state (bounding permits room) s k) × (handler clauses e bounded ≡ bounded_caught (bounding permits room) k)) ⊎ Parted permits room (cutting.caught_state (bounding permits room) s k) (cutting.caught_state (bounding permits room) bounded (handler clauses e bounded))) here
-      (subst (λ k. (Open permits room (cutting.caught_state (bounding permits room) s (by_way w s)) × (k ≡ bounded_caught (bounding permits room) (by_way w s))) ⊎ Parted permits room (cutting.caught_state (bounding permits room) s (by_way w s)) (cutting.caught_state (bounding permits room) bounded k)) there
+        let w = way (slice_get s.store.exceptions e) clauses e in
+        let here = handler_is (slice_get s.store.exceptions e) clauses e s in
+        let bounded = redial s.grows permits room s in
+        let there = handler_is (slice_get s.store.exceptions e) clauses e bounded in
+        subst (λ k. (Open permits room (cutting.caught_state (bounding permits room) s k) × (handler clauses e bounded ≡ bounded_caught (bounding permits room) k)) ⊎ Parted permits room (cutting.caught_state (bounding permits room) s k) (cutting.caught_state (bounding permits room) bounded (handler clauses e bounded))) here
+        (subst (λ k. (Open permits room (cutting.caught_state (bounding permits room) s (by_way w s)) × (k ≡ bounded_caught (bounding permits room) (by_way w s))) ⊎ Parted permits room (cutting.caught_state (bounding permits room) s (by_way w s)) (cutting.caught_state (bounding permits room) bounded k)) there
         (way_cuts w s fine));
   }

@@ -239,14 +239,14 @@ replays : (t : Task Val State) → TaskIs t → TaskReplays answering t
 replays (Change f) h = record {
   leads = λ s. (h.change s).even.begins;
   again = λ s a t e.
-    let none = nothing_told (answers (seen s.trace)) a (sym (h.change s).even.told ∙ e) in
-    ap (λ l. f (redial (l ++ t) any_sizes any_room s)) none ∙ (h.change s).redialed t any_sizes any_room ∙ free_status t (f s);
+      let none = nothing_told (answers (seen s.trace)) a (sym (h.change s).even.told ∙ e) in
+      ap (λ l. f (redial (l ++ t) any_sizes any_room s)) none ∙ (h.change s).redialed t any_sizes any_room ∙ free_status t (f s);
 }
 replays (Enter x operands see) h = record {
   leads = shown_leads see h;
   again = λ r a t e.
-    let none = nothing_told (answers (seen (state_after r).trace)) a (sym (shown_told see h r) ∙ e) in
-    ap (λ l. see (freed_plain answering (l ++ t) r)) none ∙ ap see (sym (free_res t r)) ∙ shown_redialed see h t any_sizes any_room r ∙ free_status t (see r);
+      let none = nothing_told (answers (seen (state_after r).trace)) a (sym (shown_told see h r) ∙ e) in
+      ap (λ l. see (freed_plain answering (l ++ t) r)) none ∙ ap see (sym (free_res t r)) ∙ shown_redialed see h t any_sizes any_room r ∙ free_status t (see r);
   ends = λ operands locals s. record {
     state = tell events.Full s;
     is_full = h.full (record { operands = operands; locals = locals; state = s });
@@ -287,13 +287,17 @@ module _ (permits : List ℕ → Bool) (room : ℕ → Bool) where
   cuts : (t : Task Val State) → TaskIs t → TaskCuts (bounding permits room) t
   cuts (Change f) h = record {
     leads = λ s. (h.change s).even.begins;
-    cuts = λ s fine. (open_even permits room s (status_state (f s)) (h.change s).even fine,
-      (h.change s).redialed s.grows permits room ∙ bound_status s.grows (f s) (h.change s).even.grows);
+    cuts = λ s fine. (
+      open_even permits room s (status_state (f s)) (h.change s).even fine,
+      (h.change s).redialed s.grows permits room ∙ bound_status s.grows (f s) (h.change s).even.grows,
+    );
   }
   cuts (Enter x operands see) h = record {
     leads = shown_leads see h;
-    cuts = λ r fine. (shown_open see h r fine (full_or_not r),
-      ap see (sym (bounded_redial permits room (state_after r).grows r refl)) ∙ shown_redialed see h (state_after r).grows permits room r ∙ bound_status (state_after r).grows (see r) (shown_grows see h r));
+    cuts = λ r fine. (
+      shown_open see h r fine (full_or_not r),
+      ap see (sym (bounded_redial permits room (state_after r).grows r refl)) ∙ shown_redialed see h (state_after r).grows permits room r ∙ bound_status (state_after r).grows (see r) (shown_grows see h r),
+    );
   }
 
   pub tasks_cut : (m : Module) (script : Script) → AllByRecursion (TaskCuts (bounding permits room)) (run_tasks m script)

@@ -98,8 +98,8 @@ memory_fill x operands s =
 abbrev pub memory_copy : ℕ → ℕ → List Val → Store → After
 memory_copy to from operands s =
     at_memory to s (λ m. at_memory from s (λ source.
-      option_and_then (λ bytes. option_map (λ after. (below (below (below operands)), after)) (write_at to m (third operands) bytes s))
-        (read_at source (second operands) (first operands))))
+    option_and_then (λ bytes. option_map (λ after. (below (below (below operands)), after)) (write_at to m (third operands) bytes s))
+    (read_at source (second operands) (first operands))))
 
 -- memory.init: the same from a data segment, and data.drop
 abbrev pub segment_bytes : ℕ → Store → List ℕ
@@ -108,8 +108,8 @@ segment_bytes x s = slice_index_or s.datas x []
 abbrev pub memory_init : ℕ → ℕ → List Val → Store → After
 memory_init segment x operands s =
     at_memory x s (λ m.
-      option_and_then (λ bytes. option_map (λ after. (below (below (below operands)), after)) (write_at x m (third operands) bytes s))
-        (read_range (second operands) (first operands) (segment_bytes segment s)))
+    option_and_then (λ bytes. option_map (λ after. (below (below (below operands)), after)) (write_at x m (third operands) bytes s))
+    (read_range (second operands) (first operands) (segment_bytes segment s)))
 
 abbrev pub data_drop : ℕ → List Val → Store → After
 data_drop segment operands s = Some (operands, record s { datas = set s.datas segment [] })

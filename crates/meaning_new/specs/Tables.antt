@@ -66,8 +66,8 @@ table_fill x operands s =
 abbrev pub table_copy : ℕ → ℕ → List Val → Store → After
 table_copy to from operands s =
     at_table to s (λ t. at_table from s (λ source.
-      option_and_then (λ entries. option_map (λ after. (below (below (below operands)), after)) (put_entries to t (third operands) entries s))
-        (read_range (second operands) (first operands) source.entries)))
+    option_and_then (λ entries. option_map (λ after. (below (below (below operands)), after)) (put_entries to t (third operands) entries s))
+    (read_range (second operands) (first operands) source.entries)))
 
 -- table.init: the same from an element segment, and elem.drop
 abbrev pub segment_entries : ℕ → Store → List Val
@@ -76,8 +76,8 @@ segment_entries x s = slice_index_or s.elems x []
 abbrev pub table_init : ℕ → ℕ → List Val → Store → After
 table_init segment x operands s =
     at_table x s (λ t.
-      option_and_then (λ entries. option_map (λ after. (below (below (below operands)), after)) (put_entries x t (third operands) entries s))
-        (read_range (second operands) (first operands) (segment_entries segment s)))
+    option_and_then (λ entries. option_map (λ after. (below (below (below operands)), after)) (put_entries x t (third operands) entries s))
+    (read_range (second operands) (first operands) (segment_entries segment s)))
 
 abbrev pub elem_drop : ℕ → List Val → Store → After
 elem_drop segment operands s = Some (operands, record s { elems = set s.elems segment [] })
