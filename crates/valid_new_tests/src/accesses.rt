@@ -3,12 +3,12 @@
 use crate::exactly::{Tried, is_exact, is_typed_somewhere};
 use crate::steps::Access::{Load, LoadLane, LoadVector, Store, StoreLane, StoreVector};
 use crate::steps::{self, Step};
-use crate::world::world;
+use crate::trial::{Trial, holds};
 use lane_core::operators::LaneLoad;
 use lane_core::vector::Shape::{I8x16, I16x8, I32x4, I64x2};
 use std::alloc::{AllocError, Global};
 use std::test::Fail;
-use valid_new::{Spaces, spaces_of};
+use valid_new::Spaces;
 use wasm_ast::module::Ty::{I32, I64, V128};
 use wasm_ast::module::{MemArg, Ty};
 
@@ -86,23 +86,29 @@ fn at(access: steps::Access, memory: u32, align: u32, offset: u64) -> Step {
     )
 }
 
-/// Whether the access to this memory takes an address of this type, with alignments to the natural one.
-fn is_access_exact(
-    alloc: Global,
-    spaces: &Spaces<'_>,
-    row: AccessRow,
-    memory: u32,
-    address: Ty,
-) -> Result<bool, AllocError> {
-    let (access, natural, rest, gives) = row;
+/// The type of an address, and these types above it.
+fn above(alloc: Global, address: Ty, rest: &[Ty]) -> Result<Vec<Ty>, AllocError> {
     let mut takes = Vec::new(alloc);
     takes.push(address)?;
     for ty in rest {
         takes.push(*ty)?;
     }
+    Ok(takes)
+}
+
+/// Whether the access to this memory takes an address of this type, with alignments to the natural one.
+fn is_access_exact(
+    alloc: Global,
+    spaces: &Spaces<'_>,
+    row: &AccessRow,
+    memory: u32,
+    address: Ty,
+) -> Result<bool, AllocError> {
+    let (access, natural, rest, gives) = row;
+    let takes = above(alloc, address, rest)?;
     for align in 0..natural.wrapping_add(1) {
         let row = Tried {
-            step: at(access, memory, align, 8),
+            step: at(*access, memory, align, 8),
             takes: takes.as_slice(),
             gives,
         };
@@ -151,18 +157,24 @@ fn is_offset_exact(
     Ok(true)
 }
 
-/// Whether each access is typed with its operands, alignments and offsets, and no others.
+/// Whether an access is typed with its operands, alignments and offsets, and no others.
+fn is_row_exact(alloc: Global, spaces: &Spaces<'_>, row: &AccessRow) -> Result<bool, AllocError> {
+    Ok(
+        is_access_exact(alloc, spaces, row, 0, I32)?
+            && is_access_exact(alloc, spaces, row, 1, I64)?
+            && is_alignment_bounded(alloc, spaces, row.0, row.1)?
+            && is_offset_exact(alloc, spaces, row.0)?,
+    )
+}
+
+/// The same of each access.
 fn are_accesses_exact(
     alloc: Global,
     spaces: &Spaces<'_>,
     rows: &[AccessRow],
 ) -> Result<bool, AllocError> {
     for row in rows {
-        if !is_access_exact(alloc, spaces, *row, 0, I32)?
-            || !is_access_exact(alloc, spaces, *row, 1, I64)?
-            || !is_alignment_bounded(alloc, spaces, row.0, row.1)?
-            || !is_offset_exact(alloc, spaces, row.0)?
-        {
+        if !is_row_exact(alloc, spaces, row)? {
             return Ok(false);
         }
     }
@@ -183,13 +195,11 @@ fn are_untyped(
     Ok(true)
 }
 
-fn are_told(alloc: Global) -> Result<bool, AllocError> {
-    let m = world(alloc)?;
-    let spaces = spaces_of(alloc, &m)?;
+pub fn are_accesses_told(alloc: Global, spaces: &Spaces<'_>) -> Result<bool, AllocError> {
     Ok(
-        are_accesses_exact(alloc, &spaces, &INTEGERS)?
-            && are_accesses_exact(alloc, &spaces, &LANES)?
-            && are_untyped(alloc, &spaces, &PAST_LANE_ACCESSES)?,
+        are_accesses_exact(alloc, spaces, &INTEGERS)?
+            && are_accesses_exact(alloc, spaces, &LANES)?
+            && are_untyped(alloc, spaces, &PAST_LANE_ACCESSES)?,
     )
 }
 
@@ -197,6 +207,6 @@ fn are_told(alloc: Global) -> Result<bool, AllocError> {
 fn accesses_take_an_address_of_their_memory_and_alignments_to_the_natural_one(
     rt: HostRuntime,
 ) -> Result<(), Fail> {
-    assert!(rt; are_told(rt.alloc())?);
+    assert!(rt; holds(rt.alloc(), Trial::Accesses)?);
     Ok(())
 }

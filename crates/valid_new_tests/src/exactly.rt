@@ -1,9 +1,9 @@
 // That an instruction takes operands of its types and of no others.
 
 use crate::steps::{Step, UNREACHABLE};
-use crate::world::{is_typed, is_typed_over, world};
+use crate::world::{is_typed, is_typed_over};
 use std::alloc::{AllocError, Global};
-use valid_new::{Spaces, spaces_of};
+use valid_new::Spaces;
 use wasm_ast::module::Ty;
 
 /// An instruction with the types that it takes and those that it gives.
@@ -129,11 +129,13 @@ fn are_rows_exact(alloc: Global, spaces: &Spaces<'_>, rows: &[Row]) -> Result<bo
 }
 
 /// Whether each row of the tables has the type that it says and no other.
-pub fn are_exact(alloc: Global, tables: &[&[Row]]) -> Result<bool, AllocError> {
-    let m = world(alloc)?;
-    let spaces = spaces_of(alloc, &m)?;
+pub fn are_exact(
+    alloc: Global,
+    spaces: &Spaces<'_>,
+    tables: &[&[Row]],
+) -> Result<bool, AllocError> {
     for rows in tables {
-        if !are_rows_exact(alloc, &spaces, rows)? {
+        if !are_rows_exact(alloc, spaces, rows)? {
             return Ok(false);
         }
     }
@@ -156,11 +158,14 @@ fn are_steps(
 }
 
 /// Whether each instruction of the tables is typed where no operand is known, or none is.
-pub fn are_typed(alloc: Global, tables: &[&[Step]], typed: bool) -> Result<bool, AllocError> {
-    let m = world(alloc)?;
-    let spaces = spaces_of(alloc, &m)?;
+pub fn are_typed(
+    alloc: Global,
+    spaces: &Spaces<'_>,
+    tables: &[&[Step]],
+    typed: bool,
+) -> Result<bool, AllocError> {
     for steps in tables {
-        if !are_steps(alloc, &spaces, steps, typed)? {
+        if !are_steps(alloc, spaces, steps, typed)? {
             return Ok(false);
         }
     }

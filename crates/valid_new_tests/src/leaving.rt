@@ -1,15 +1,16 @@
 // Instructions behind which nothing is reached.
 
-use crate::exactly::{Tried, are_typed, takes_exactly};
+use crate::exactly::{Tried, takes_exactly};
 use crate::steps::Index::{Br, ReturnCall, Throw};
 use crate::steps::Pair::ReturnCallIndirect;
 use crate::steps::Plain::{Return, ThrowRef};
 use crate::steps::Step::{BrTable, Named, NamedTwice, Plain};
 use crate::steps::{Step, UNREACHABLE};
-use crate::world::{is_typed_over, world};
+use crate::trial::{Trial, holds};
+use crate::world::is_typed_over;
 use std::alloc::{AllocError, Global};
 use std::test::Fail;
-use valid_new::{Spaces, spaces_of};
+use valid_new::Spaces;
 use wasm_ast::module::Ty;
 use wasm_ast::module::Ty::{Exn, Extern, I32, I64, V128};
 
@@ -30,6 +31,27 @@ static ROWS: [(Step, &[Ty]); 10] = [
     (Plain(ThrowRef), &[Exn]),
 ];
 
+/// These types, and another one below them.
+fn with_below(alloc: Global, takes: &[Ty]) -> Result<Vec<Ty>, AllocError> {
+    let mut more = Vec::new(alloc);
+    more.push(V128)?;
+    for ty in takes {
+        more.push(*ty)?;
+    }
+    Ok(more)
+}
+
+/// Whether the instruction lets operands lie below what it takes.
+fn lets_lie(
+    alloc: Global,
+    spaces: &Spaces<'_>,
+    step: Step,
+    takes: &[Ty],
+) -> Result<bool, AllocError> {
+    let more = with_below(alloc, takes)?;
+    is_typed_over(alloc, spaces, more.as_slice(), step, &RESULTS)
+}
+
 /// Whether the instruction takes these types and no others, leaves what is asked of it, and lets operands lie below.
 fn is_leaving(
     alloc: Global,
@@ -37,28 +59,18 @@ fn is_leaving(
     step: Step,
     takes: &[Ty],
 ) -> Result<bool, AllocError> {
-    let mut more = Vec::new(alloc);
-    more.push(V128)?;
-    for ty in takes {
-        more.push(*ty)?;
-    }
     let row = Tried {
         step,
         takes,
         gives: &RESULTS,
     };
-    Ok(
-        takes_exactly(alloc, spaces, row)?
-            && is_typed_over(alloc, spaces, more.as_slice(), step, &RESULTS)?,
-    )
+    Ok(takes_exactly(alloc, spaces, row)? && lets_lie(alloc, spaces, step, takes)?)
 }
 
 /// The same of each row.
-fn are_leaving(alloc: Global) -> Result<bool, AllocError> {
-    let m = world(alloc)?;
-    let spaces = spaces_of(alloc, &m)?;
+pub fn are_leaving(alloc: Global, spaces: &Spaces<'_>) -> Result<bool, AllocError> {
     for (step, takes) in &ROWS {
-        if !is_leaving(alloc, &spaces, *step, takes)? {
+        if !is_leaving(alloc, spaces, *step, takes)? {
             return Ok(false);
         }
     }
@@ -67,7 +79,7 @@ fn are_leaving(alloc: Global) -> Result<bool, AllocError> {
 
 #[test]
 fn what_leaves_takes_its_types_and_leaves_any(rt: HostRuntime) -> Result<(), Fail> {
-    assert!(rt; are_leaving(rt.alloc())?);
+    assert!(rt; holds(rt.alloc(), Trial::Leaving)?);
     Ok(())
 }
 
@@ -85,6 +97,6 @@ static SOMEWHERE: [Step; 8] = [
 
 #[test]
 fn what_leaves_is_typed_where_no_operand_is_known(rt: HostRuntime) -> Result<(), Fail> {
-    assert!(rt; are_typed(rt.alloc(), &[&SOMEWHERE], true)?);
+    assert!(rt; holds(rt.alloc(), Trial::Somewhere(&[&SOMEWHERE], true))?);
     Ok(())
 }

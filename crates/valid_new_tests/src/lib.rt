@@ -25,6 +25,8 @@ mod steps;
 #[cfg(test)]
 mod trees;
 #[cfg(test)]
+mod trial;
+#[cfg(test)]
 mod unreached;
 #[cfg(test)]
 mod whole;

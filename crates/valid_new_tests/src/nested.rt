@@ -1,10 +1,11 @@
 // Blocks, loops, ifs and try_tables: their types, their labels, their clauses.
 
-use crate::exactly::{Row, are_exact, are_typed};
+use crate::exactly::Row;
 use crate::steps::Index::Br;
 use crate::steps::Plain::Drop;
 use crate::steps::Step::{Block, If, Loop, Named, Plain, Try};
 use crate::steps::{I32_CONST, I64_CONST, NULL_EXN, NULL_EXTERN, Step, UNREACHABLE, V128_CONST};
+use crate::trial::{Trial, holds};
 use std::test::Fail;
 use wasm_ast::module::BlockType::{Empty, Index, One};
 use wasm_ast::module::Catch::{All, AllRef, Tag, TagRef};
@@ -94,7 +95,7 @@ static CLAUSES: [Row; 6] = [
 
 #[test]
 fn nested_code_has_its_type_and_label(rt: HostRuntime) -> Result<(), Fail> {
-    assert!(rt; are_exact(rt.alloc(), &[&ROWS, &CLAUSES])?);
+    assert!(rt; holds(rt.alloc(), Trial::Exact(&[&ROWS, &CLAUSES]))?);
     Ok(())
 }
 
@@ -133,6 +134,11 @@ static WRONG_CLAUSES: [Step; 12] = [
 
 #[test]
 fn wrong_code_and_wrong_clauses_have_no_type(rt: HostRuntime) -> Result<(), Fail> {
-    assert!(rt; are_typed(rt.alloc(), &[&WRONG_CODE, &WRONG_CLAUSES], false)?);
+    assert!(rt;
+        holds(
+            rt.alloc(),
+            Trial::Somewhere(&[&WRONG_CODE, &WRONG_CLAUSES], false)
+        )?
+    );
     Ok(())
 }

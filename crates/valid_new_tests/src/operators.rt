@@ -1,9 +1,9 @@
 // Operators on numbers and vectors.
 
-use crate::exactly::{Row, Tried, are_exact, are_typed, is_exact};
+use crate::exactly::{Row, Tried, is_exact};
 use crate::steps::Step;
 use crate::steps::Step::Pure;
-use crate::world::world;
+use crate::trial::{Trial, holds};
 use lane_core::operators::{LaneExtract, LaneOp};
 use lane_core::vector::Shape::{I8x16, I16x8, I32x4, I64x2};
 use lane_core::vector::{Shape, V};
@@ -12,7 +12,7 @@ use num_core::operators::{Bin, Cmp, Conv, Un};
 use simd_table::name_of;
 use std::alloc::{AllocError, Global};
 use std::test::Fail;
-use valid_new::{Spaces, spaces_of};
+use valid_new::Spaces;
 use wasm_ast::module::Ty::{I32, I64, V128};
 use wasm_ast::module::{Op, Ty};
 
@@ -41,7 +41,7 @@ static NUMBERS: [Row; 18] = [
 fn operators_on_numbers_take_and_give_their_types_and_no_others(
     rt: HostRuntime,
 ) -> Result<(), Fail> {
-    assert!(rt; are_exact(rt.alloc(), &[&NUMBERS])?);
+    assert!(rt; holds(rt.alloc(), Trial::Exact(&[&NUMBERS]))?);
     Ok(())
 }
 
@@ -139,11 +139,9 @@ fn is_code_exact(alloc: Global, spaces: &Spaces<'_>, code: u32) -> Result<bool, 
 }
 
 /// The same of each code.
-fn are_codes_exact(alloc: Global) -> Result<bool, AllocError> {
-    let m = world(alloc)?;
-    let spaces = spaces_of(alloc, &m)?;
+pub fn are_codes_exact(alloc: Global, spaces: &Spaces<'_>) -> Result<bool, AllocError> {
     for code in 0..0x114 {
-        if !is_code_exact(alloc, &spaces, code)? {
+        if !is_code_exact(alloc, spaces, code)? {
             return Ok(false);
         }
     }
@@ -154,7 +152,7 @@ fn are_codes_exact(alloc: Global) -> Result<bool, AllocError> {
 fn operators_on_vectors_take_and_give_their_types_and_no_others(
     rt: HostRuntime,
 ) -> Result<(), Fail> {
-    assert!(rt; are_codes_exact(rt.alloc())?);
+    assert!(rt; holds(rt.alloc(), Trial::Vectors)?);
     Ok(())
 }
 
@@ -176,6 +174,6 @@ static PAST_LANES: [Step; 12] = [
 
 #[test]
 fn lanes_and_places_past_the_last_have_no_type(rt: HostRuntime) -> Result<(), Fail> {
-    assert!(rt; are_typed(rt.alloc(), &[&PAST_LANES], false)?);
+    assert!(rt; holds(rt.alloc(), Trial::Somewhere(&[&PAST_LANES], false))?);
     Ok(())
 }

@@ -1,6 +1,5 @@
 // Instructions that no rule types, whatever stands on the operand stack.
 
-use crate::exactly::are_typed;
 use crate::steps::Index::{
     Br, BrIf, Call, DataDrop, ElemDrop, GlobalGet, GlobalSet, LocalGet, LocalSet, LocalTee,
     MemoryFill, MemoryGrow, MemorySize, ReturnCall, TableFill, TableGet, TableGrow, TableSet,
@@ -13,11 +12,12 @@ use crate::steps::Step::{
     Block, BrTable, Float, If, Loop, Named, NamedTwice, Pure, SelectTyped, Try,
 };
 use crate::steps::{Step, UNREACHABLE};
-use crate::world::{is_typed_body, world};
+use crate::trial::{Trial, holds};
+use crate::world::is_typed_body;
 use sqlite_items::Items;
 use std::alloc::{AllocError, Global};
 use std::test::Fail;
-use valid_new::spaces_of;
+use valid_new::Spaces;
 use wasm_ast::module::BlockType::{Index, One};
 use wasm_ast::module::{FloatCode, FloatImmediates, Op, Ty};
 
@@ -118,13 +118,8 @@ static FLOATS: [Step; 13] = [
 
 #[test]
 fn indices_out_of_range_other_kinds_and_floats_have_no_type(rt: HostRuntime) -> Result<(), Fail> {
-    assert!(rt;
-        are_typed(
-            rt.alloc(),
-            &[&OUT_OF_RANGE, &OF_ANOTHER_KIND, &FLOATS],
-            false
-        )?
-    );
+    let tables: [&[Step]; 3] = [&OUT_OF_RANGE, &OF_ANOTHER_KIND, &FLOATS];
+    assert!(rt; holds(rt.alloc(), Trial::Somewhere(&tables, false))?);
     Ok(())
 }
 
@@ -141,12 +136,10 @@ static LOCALS: [(Ty, bool); 8] = [
 ];
 
 /// Whether a body may have the locals that the rows say, and no others.
-fn are_locals_told(alloc: Global) -> Result<bool, AllocError> {
-    let m = world(alloc)?;
-    let spaces = spaces_of(alloc, &m)?;
+pub fn are_locals_told(alloc: Global, spaces: &Spaces<'_>) -> Result<bool, AllocError> {
     for (ty, typed) in &LOCALS {
         let code = Items::new(alloc);
-        if is_typed_body(alloc, &spaces, &[Ty::I32, *ty], code, &[])? != *typed {
+        if is_typed_body(alloc, spaces, &[Ty::I32, *ty], code, &[])? != *typed {
             return Ok(false);
         }
     }
@@ -155,6 +148,6 @@ fn are_locals_told(alloc: Global) -> Result<bool, AllocError> {
 
 #[test]
 fn a_local_is_of_any_type_but_a_float(rt: HostRuntime) -> Result<(), Fail> {
-    assert!(rt; are_locals_told(rt.alloc())?);
+    assert!(rt; holds(rt.alloc(), Trial::Locals)?);
     Ok(())
 }

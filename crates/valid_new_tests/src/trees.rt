@@ -6,14 +6,15 @@ use crate::steps::Step::{Block, BrTable, If, Loop, Plain, Pure, Try};
 use crate::steps::{
     self, I32_CONST, I64_CONST, NULL_EXTERN, Step, UNREACHABLE, V128_CONST, code_of,
 };
-use crate::world::{annotated, world};
+use crate::trial::{Trial, holds};
+use crate::world::annotated;
 use lane_core::vector::V;
 use num_core::operators::{Bin, Load, Width};
 use sqlite_items::Items;
 use std::alloc::{AllocError, Global};
 use std::test::Fail;
 use typed_trees::{Node, TypedFn};
-use valid_new::{Spaces, spaces_of};
+use valid_new::Spaces;
 use wasm_ast::module::BlockType::{Empty, Index, One};
 use wasm_ast::module::Ty::{Exn, Extern, I32, I64, V128};
 use wasm_ast::module::{BlockType, Catch, Instr, MemArg, Op, Ty};
@@ -155,7 +156,7 @@ const AT: MemArg = MemArg {
 };
 
 /// A body, the results of its function, and its nodes.
-type TreeRow = (&'static [Step], &'static [Ty], &'static [Seen]);
+pub type TreeRow = (&'static [Step], &'static [Ty], &'static [Seen]);
 
 /// Code that is reached to its end.
 static REACHED: [TreeRow; 5] = [
@@ -351,11 +352,13 @@ fn are_bodies(alloc: Global, spaces: &Spaces<'_>, rows: &[TreeRow]) -> Result<bo
 }
 
 /// The same of each table.
-fn are_trees(alloc: Global, tables: &[&[TreeRow]]) -> Result<bool, AllocError> {
-    let m = world(alloc)?;
-    let spaces = spaces_of(alloc, &m)?;
+pub fn are_trees(
+    alloc: Global,
+    spaces: &Spaces<'_>,
+    tables: &[&[TreeRow]],
+) -> Result<bool, AllocError> {
     for rows in tables {
-        if !are_bodies(alloc, &spaces, rows)? {
+        if !are_bodies(alloc, spaces, rows)? {
             return Ok(false);
         }
     }
@@ -364,15 +367,13 @@ fn are_trees(alloc: Global, tables: &[&[TreeRow]]) -> Result<bool, AllocError> {
 
 #[test]
 fn nodes_are_what_can_be_reached_with_its_types(rt: HostRuntime) -> Result<(), Fail> {
-    assert!(rt; are_trees(rt.alloc(), &[&REACHED, &LEFT, &IMMEDIATES])?);
+    assert!(rt; holds(rt.alloc(), Trial::Trees(&[&REACHED, &LEFT, &IMMEDIATES]))?);
     Ok(())
 }
 
 /// Whether the declared locals of a body are kept.
-fn are_locals_kept(alloc: Global) -> Result<bool, AllocError> {
-    let m = world(alloc)?;
-    let spaces = spaces_of(alloc, &m)?;
-    match annotated(alloc, &spaces, &[I64, Exn], Items::new(alloc), &[])? {
+pub fn are_locals_kept(alloc: Global, spaces: &Spaces<'_>) -> Result<bool, AllocError> {
+    match annotated(alloc, spaces, &[I64, Exn], Items::new(alloc), &[])? {
         Some(typed) => Ok(typed.locals.as_slice() == [I64, Exn].as_slice()),
         None => Ok(false),
     }
@@ -380,6 +381,6 @@ fn are_locals_kept(alloc: Global) -> Result<bool, AllocError> {
 
 #[test]
 fn the_declared_locals_are_kept(rt: HostRuntime) -> Result<(), Fail> {
-    assert!(rt; are_locals_kept(rt.alloc())?);
+    assert!(rt; holds(rt.alloc(), Trial::KeptLocals)?);
     Ok(())
 }

@@ -7,12 +7,13 @@ use crate::steps::Step::{Block, BrTable, If, Loop, Named, NamedTwice, Plain, Pur
 use crate::steps::{
     I32_CONST, I64_CONST, NULL_EXN, NULL_EXTERN, NULL_FUNC, Step, UNREACHABLE, V128_CONST,
 };
-use crate::world::{is_typed, world};
+use crate::trial::{Trial, holds};
+use crate::world::is_typed;
 use lane_core::operators::Lane1;
 use num_core::operators::{Bin, Width};
 use std::alloc::{AllocError, Global};
 use std::test::Fail;
-use valid_new::{Spaces, spaces_of};
+use valid_new::Spaces;
 use wasm_ast::module::BlockType::{Empty, Index, One};
 use wasm_ast::module::Ty::{Extern, Func, I32, I64, V128};
 use wasm_ast::module::{Op, Ty};
@@ -32,7 +33,7 @@ const DROP: Step = Plain(Drop);
 const SELECT: Step = Plain(Select);
 
 /// A body, the results of its function, and whether it is typed.
-type BodyRow = (&'static [Step], &'static [Ty], bool);
+pub type BodyRow = (&'static [Step], &'static [Ty], bool);
 
 /// drop, ref.is_null and select without types.
 static KINDS: [BodyRow; 27] = [
@@ -324,11 +325,13 @@ fn are_rows_told(alloc: Global, spaces: &Spaces<'_>, rows: &[BodyRow]) -> Result
 }
 
 /// The same of each table.
-fn are_told(alloc: Global, tables: &[&[BodyRow]]) -> Result<bool, AllocError> {
-    let m = world(alloc)?;
-    let spaces = spaces_of(alloc, &m)?;
+pub fn are_told(
+    alloc: Global,
+    spaces: &Spaces<'_>,
+    tables: &[&[BodyRow]],
+) -> Result<bool, AllocError> {
     for rows in tables {
-        if !are_rows_told(alloc, &spaces, rows)? {
+        if !are_rows_told(alloc, spaces, rows)? {
             return Ok(false);
         }
     }
@@ -337,12 +340,12 @@ fn are_told(alloc: Global, tables: &[&[BodyRow]]) -> Result<bool, AllocError> {
 
 #[test]
 fn bodies_leave_their_results_and_nothing_else(rt: HostRuntime) -> Result<(), Fail> {
-    assert!(rt; are_told(rt.alloc(), &[&KINDS, &LEFT, &BLOCKS])?);
+    assert!(rt; holds(rt.alloc(), Trial::Bodies(&[&KINDS, &LEFT, &BLOCKS]))?);
     Ok(())
 }
 
 #[test]
 fn code_that_cannot_be_reached_takes_operands_of_any_type(rt: HostRuntime) -> Result<(), Fail> {
-    assert!(rt; are_told(rt.alloc(), &[&BEHIND, &BRANCHES, &SELECTS])?);
+    assert!(rt; holds(rt.alloc(), Trial::Bodies(&[&BEHIND, &BRANCHES, &SELECTS]))?);
     Ok(())
 }

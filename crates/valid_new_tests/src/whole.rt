@@ -178,18 +178,25 @@ fn is_told(found: Option<TypedFn>, seen: Option<&[Seen]>) -> bool {
     }
 }
 
-fn are_functions_told(alloc: Global) -> Result<bool, AllocError> {
-    let mut m = world(alloc)?;
-    put_bodies(alloc, &mut m)?;
-    let spaces = spaces_of(alloc, &m)?;
+/// Whether each function of the module's own is what its row says.
+fn are_functions(alloc: Global, spaces: &Spaces<'_>, m: &Module) -> Result<bool, AllocError>
+    requires { spaces_context spaces.now ≡ context m.now }
+{
     let mut f: u32 = 0;
     for (_, seen) in &FUNCTIONS {
-        if !is_told(function(alloc, &spaces, &m, f)?, *seen) {
+        if !is_told(function(alloc, spaces, m, f)?, *seen) {
             return Ok(false);
         }
         f = f.wrapping_add(1);
     }
     Ok(true)
+}
+
+fn are_functions_told(alloc: Global) -> Result<bool, AllocError> {
+    let mut m = world(alloc)?;
+    put_bodies(alloc, &mut m)?;
+    let spaces = spaces_of(alloc, &m)?;
+    are_functions(alloc, &spaces, &m)
 }
 
 #[test]
