@@ -7,22 +7,17 @@ use Rattle.tool_files.proofs.HeldLemmas.{where_told}
 use Rattle.lower_tool.specs.Lowering.{Lowers, default_captures}
 use Rattle.lower_tool.specs.Products.{IsFor, IfFile, IfPrinted, Makes}
 use Rattle.lower_tool.specs.Statuses.{Lowered, CutShort, LeavesFront, line}
-use Rattle.wasm_frame.specs.declared.sections.Version.{Version}
-use Rattle.wasm_frame.specs.declared.sections.Version.TheVariants.{One, Three}
-use Rattle.lower_tool.specs.Verdict.{IsValid}
-use Rattle.lower_tool.specs.Words.{Command, lower, check, words_of, input_of}
+use Rattle.lower_tool.specs.Verdict.{IsFine1}
+use Rattle.lower_tool.specs.Words.{Command, lower, check1, words_of, input_of}
 use Rattle.lower_tool.specs.declared.tool.product.Product.{Product}
 use Rattle.lower_tool.specs.declared.tool.product.Product.TheVariants.{File, Printed}
 
 -- words are one command at most
 pub one_command : (c d : Command) → words_of c ≡ words_of d → c ≡ d
 one_command (lower input output) (lower other result) e = cc
-one_command (lower input output) (check v other) e = absurd cc
-one_command (check v input) (lower other result) e = absurd cc
-one_command (check One input) (check One other) e = cc
-one_command (check One input) (check Three other) e = absurd cc
-one_command (check Three input) (check One other) e = absurd cc
-one_command (check Three input) (check Three other) e = cc
+one_command (lower input output) (check1 other) e = absurd cc
+one_command (check1 input) (lower other result) e = absurd cc
+one_command (check1 input) (check1 other) e = cc
 
 -- what is known of what was made, and of the file that was read
 pub record Made (command : Command) (known : Option Contents) (product : Product) : Type 0 where
@@ -46,11 +41,11 @@ pub of_file : (known : Option Contents) (input output : List ℕ) (product : Pro
 of_file known input output (File name written) P made h = h
 of_file known input output (Printed text) P made h = absurd made.is_for
 
--- ---- of `check1` and `check3`
+-- ---- of `check1`
 
-pub finds_fine : (known : Option Contents) (version : Version) (input : List ℕ) (product : Product) → Made (check version input) known product → WhereTold known input (IsValid version)
-finds_fine known version input product made = where_told known input (λ bytes. Makes (check version input) bytes product) (IsValid version) (λ bytes made. made.0) made.makes
+pub finds_fine : (known : Option Contents) (input : List ℕ) (product : Product) → Made (check1 input) known product → WhereTold known input IsFine1
+finds_fine known input product made = where_told known input (λ bytes. Makes (check1 input) bytes product) IsFine1 (λ bytes made. made.0) made.makes
 
-pub of_text : (known : Option Contents) (version : Version) (input : List ℕ) (product : Product) (P : List ℕ → Type 0) → Made (check version input) known product → IfPrinted product P → P (line (codes "ok"))
-of_text known version input (File name written) P made h = absurd made.is_for
-of_text known version input (Printed text) P made h = subst P made.is_for h
+pub of_text : (known : Option Contents) (input : List ℕ) (product : Product) (P : List ℕ → Type 0) → Made (check1 input) known product → IfPrinted product P → P (line (codes "ok"))
+of_text known input (File name written) P made h = absurd made.is_for
+of_text known input (Printed text) P made h = subst P made.is_for h
