@@ -2,6 +2,7 @@ pub mod Arrows
 pub mod CoreFiles
 pub mod Delivering
 pub mod Image
+pub mod Judging
 pub mod KnownLemmas
 pub mod Linked
 pub mod Refusals

@@ -1,10 +1,9 @@
 -- What a command reads and makes.
-use Rattle.std.specs.Prelude.{◌≡◌, ℕ, List, codes}
 use Rattle.lower_tool.specs.declared.tool.command.Command.{Command as Given}
 use Rattle.lower_tool.specs.declared.tool.command.Command.TheVariants as given
-use Rattle.lower_tool.specs.Words.{Command, lower, check1}
+use Rattle.lower_tool.specs.Words.{Command, lower, check}
 
 -- the command with its names
 abbrev pub command_of : Given → Command
 command_of (given.Lower input output) = lower input.now output.now
-command_of (given.Check1 input) = check1 input.now
+command_of (given.Check version input) = check version input.now

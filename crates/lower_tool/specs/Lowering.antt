@@ -13,10 +13,6 @@ use Rattle.lower_tool.specs.MappedInterface.{SameInterface}
 abbrev pub default_captures : ℕ
 default_captures = 4096
 
--- these bytes are a module that the lowering takes
-unfoldable pub IsCoreFile : List ℕ → Type 0
-IsCoreFile bytes = (m : Module) × SpellsCore bytes m
-
 -- The bytes are those of a lowering of the module, for a store of so many captured exceptions: they spell a module that
 -- the rules of 1.0 type, that the meaning of 1.0 covers, that is linked as the first is, and that shows what the first
 -- shows, with at most 4 d + 16 live frames.

@@ -5,12 +5,12 @@ use Rattle.lower_tool.specs.declared.tool.product.Product.TheVariants.{File, Pri
 use Rattle.lower_tool.specs.Lowering.{Lowers, default_captures}
 use Rattle.lower_tool.specs.Statuses.{line}
 use Rattle.lower_tool.specs.Verdict.{IsFine}
-use Rattle.lower_tool.specs.Words.{Command, lower, check1}
+use Rattle.lower_tool.specs.Words.{Command, lower, check}
 
 -- what is made is a file under the name of the output; or the line `ok`
 abbrev pub IsFor : Command → Product → Type 0
 IsFor (lower input output) (File name written) = name.now ≡ output
-IsFor (check1 input) (Printed text) = text ≡ line (codes "ok")
+IsFor (check version input) (Printed text) = text ≡ line (codes "ok")
 IsFor _ _ = ⊥
 
 -- P holds of the name and the bytes, where this is a file; of the text, where it is one

@@ -5,7 +5,7 @@ use Rattle.tool_files.specs.Causes.{Rose}
 use Rattle.tool_files.specs.Held.{Contents, Sets, WhereTold}
 use Rattle.lower_tool.specs.Lowering.{Lowers, default_captures}
 use Rattle.module_reading.specs.Limits.{file_limit}
-use Rattle.lower_tool.specs.Verdict.{IsFine3}
+use Rattle.lower_tool.specs.Verdict.{IsFineToLower}
 
 -- a text and the line feed that ends it
 abbrev pub line : List ℕ → List ℕ
@@ -25,7 +25,7 @@ pub record Prints (written now : Option (List ℕ)) (faults faults_now : ℕ) (t
 -- the output holds bytes that stand so to those of the input, which is fine, and each other file is as before
 pub record Lowered (held now : Option Contents) (Stands : List ℕ → List ℕ → Type 0) (input output : List ℕ) : Type 0 where
   pub lowered : List ℕ
-  pub lowers : WhereTold held input (λ bytes. IsFine3 bytes × Stands bytes lowered)
+  pub lowers : WhereTold held input (λ bytes. IsFineToLower bytes × Stands bytes lowered)
   pub sets : Sets held now output lowered
 
 -- the file is as before or holds a front of the bytes, and each other file is as before
@@ -36,7 +36,7 @@ LeavesFront held now name bytes =
 -- the output is as before or holds a front of a lowering of the input, which is fine, and each other file is as before
 pub record CutShort (held now : Option Contents) (input output : List ℕ) : Type 0 where
   pub lowered : List ℕ
-  pub lowers : WhereTold held input (λ bytes. IsFine3 bytes × Lowers default_captures bytes lowered)
+  pub lowers : WhereTold held input (λ bytes. IsFineToLower bytes × Lowers default_captures bytes lowered)
   pub leaves : LeavesFront held now output lowered
 
 -- what was taken is the front of what was left, and no more than one byte past the limit

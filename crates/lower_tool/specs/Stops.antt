@@ -2,8 +2,10 @@
 use Rattle.std.specs.Prelude.{ℕ, List, ◌++◌, codes, ⊤}
 use Rattle.module_reading.specs.declared.fault.ReadFault.{ReadFault}
 use Rattle.module_reading.specs.declared.fault.ReadFault.TheVariants as fault
-use Rattle.valid_core1.specs.declared.invalid.Invalid.{Invalid}
-use Rattle.valid_core1.specs.declared.invalid.Invalid.TheVariants as invalid
+use Rattle.valid_core1.specs.declared.invalid.Invalid.{Invalid as OldInvalid}
+use Rattle.valid_core1.specs.declared.invalid.Invalid.TheVariants as old_invalid
+use Rattle.valid_mod.specs.declared.invalid.Invalid.{Invalid}
+use Rattle.valid_mod.specs.declared.invalid.Invalid.TheVariants as invalid
 use Rattle.lower_tool.specs.declared.verdict.NotFine.{NotFine}
 use Rattle.lower_tool.specs.declared.verdict.NotFine.TheVariants as verdict
 use Rattle.lower_tool.specs.declared.verdict.Refusal.{Refusal}
@@ -29,7 +31,12 @@ abbrev pub of_reading : ReadFault → NotFine
 of_reading (fault.Memory error) = verdict.Memory error
 of_reading other = verdict.Refused (Unreadable other)
 
--- why a module that is not typed is not fine
+-- why a module that is not typed is not fine, in 1.0 and in 3.0
+abbrev pub of_typing1 : OldInvalid → NotFine
+of_typing1 (old_invalid.Part section index) = verdict.Refused (Part section index)
+of_typing1 (old_invalid.Body place) = verdict.Refused (Body place)
+of_typing1 (old_invalid.Memory error) = verdict.Memory error
+
 abbrev pub of_typing : Invalid → NotFine
 of_typing (invalid.Part section index) = verdict.Refused (Part section index)
 of_typing (invalid.Body place) = verdict.Refused (Body place)

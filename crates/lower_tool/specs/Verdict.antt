@@ -1,71 +1,114 @@
 -- The verdict on a file: the first of these steps that holds. The steps, their order and their texts are this project's
 -- own.
-use Rattle.std.specs.Prelude.{◌≡◌, ℕ, ◌<◌, ◌≤◌, List, ◌++◌, ◌∷◌, [], length, true, false, Ok, Err, codes}
+use Rattle.std.specs.Prelude.{◌≡◌, ℕ, ◌<◌, ◌≤◌, List, ◌++◌, length, true, false, Some, None, Result, Ok, Err, codes}
 use Rattle.std.specs.Fmt.{decimal}
 use Rattle.wasm_ast.specs.declared.module.parts.Module.{Module}
 use Rattle.core1_ast.specs.Floats.{has_floats}
 use Rattle.core1_ast.specs.Typing.{Typed1}
 use Rattle.core1_ast.specs.declared.module.parts.Module1.{Module1}
+use Rattle.typed_trees.specs.Modules.{IsTyped}
+use Rattle.wasm_frame.specs.declared.sections.Version.{Version}
+use Rattle.wasm_frame.specs.declared.sections.Version.TheVariants as versions
+use Rattle.module_reading.specs.declared.fault.ReadFault.{ReadFault}
 use Rattle.module_reading.specs.Texts as reading
 use Rattle.module_reading.specs.Limits.{file_limit}
 use Rattle.module_reading.specs.Reads.{Reads}
 use Rattle.read_new.specs.Spells.{three}
 use Rattle.core1_bytes.specs.Spells.{one}
-use Rattle.valid_core1.specs.Verdict.{Tells}
-use Rattle.valid_core1.specs.declared.invalid.Invalid.TheVariants as invalid
+use Rattle.pass_stack.specs.Profile.{outside_profile}
+use Rattle.pass_stack.specs.Texts as outside
+use Rattle.valid_core1.specs.Verdict as old
+use Rattle.valid_core1.specs.declared.invalid.Invalid.TheVariants as old_invalid
+use Rattle.valid_mod.specs.Verdict as new
+use Rattle.valid_mod.specs.declared.invalid.Invalid.TheVariants as new_invalid
 use Rattle.lower_tool.specs.declared.verdict.Refusal.{Refusal}
-use Rattle.lower_tool.specs.declared.verdict.Refusal.TheVariants.{TooLarge, Unreadable, Floats, NotBuiltCore, Part, Body}
-use Rattle.lower_tool.specs.Lowering.{IsCoreFile}
-use Rattle.lower_tool.specs.Words.{Command, lower, check1}
+use Rattle.lower_tool.specs.declared.verdict.Refusal.TheVariants.{TooLarge, Unreadable, Floats, Outside, NotBuiltCore, Part, Body}
+use Rattle.lower_tool.specs.CoreFiles.{SpellsCore}
+use Rattle.lower_tool.specs.Words.{Command, lower, check}
 
--- ---- a file of 3.0 that is to be lowered
+-- ---- what every command asks of a file, where Read says how files of its version are read
 
--- the file can be lowered
-abbrev pub IsFine3 : List ℕ → Type 0
-IsFine3 bytes = (length bytes ≤ file_limit) × IsCoreFile bytes
+-- the file is within the limit of size, and is read as a module of which P holds
+abbrev pub ReadsWhere : {M : Type 0} → (List ℕ → Result M ReadFault → Type 0) → (M → Type 0) → List ℕ → Type 0
+ReadsWhere {M} Read P bytes = (length bytes ≤ file_limit) × ((m : M) × Read bytes (Ok m) × P m)
 
 -- This is the step that refuses the file. A fault of reading is the first that refuses it, and so says that the steps
--- before do not hold; the last says that the file can be read
-abbrev pub Refuses3 : Refusal → List ℕ → Type 0
-Refuses3 TooLarge bytes = file_limit < length bytes
-Refuses3 (Unreadable fault) bytes = (length bytes ≤ file_limit) × Reads three bytes (Err fault)
-Refuses3 NotBuiltCore bytes = (length bytes ≤ file_limit) × ((m : Module) × Reads three bytes (Ok m)) × (¬ IsCoreFile bytes)
-Refuses3 _ bytes = ⊥
+-- before do not hold; a later step says that the file can be read, and refuses the module
+abbrev pub RefusedBy : {M : Type 0} → (List ℕ → Result M ReadFault → Type 0) → (Refusal → M → Type 0) → Refusal → List ℕ → Type 0
+RefusedBy Read Refuses TooLarge bytes = file_limit < length bytes
+RefusedBy Read Refuses (Unreadable fault) bytes = (length bytes ≤ file_limit) × Read bytes (Err fault)
+RefusedBy Read Refuses refusal bytes = ReadsWhere Read (Refuses refusal) bytes
 
--- ---- a file of 1.0
+-- ---- a module of 3.0 that is to be lowered
 
--- the file spells a module within the limits, without floats, that is typed
-abbrev pub IsFine1 : List ℕ → Type 0
-IsFine1 bytes = (length bytes ≤ file_limit) × ((m : Module1) × Reads one bytes (Ok m) × (has_floats m ≡ false) × Typed1 m)
+-- it lies in the profile, and the bytes spell it as a core module
+abbrev pub CanLower : List ℕ → Module → Type 0
+CanLower bytes m = (outside_profile m ≡ None) × SpellsCore bytes m
 
--- this is the step that refuses a module that was read
-abbrev pub RefusesModule : Refusal → Module1 → Type 0
-RefusesModule Floats m = has_floats m ≡ true
-RefusesModule (Part section index) m = (has_floats m ≡ false) × Tells m (Err (invalid.Part section index))
-RefusesModule (Body place) m = (has_floats m ≡ false) × Tells m (Err (invalid.Body place))
-RefusesModule _ m = ⊥
+-- this is the step that refuses it
+abbrev pub RefusesLowering : List ℕ → Refusal → Module → Type 0
+RefusesLowering bytes (Outside entry) m = outside_profile m ≡ Some entry
+RefusesLowering bytes NotBuiltCore m = (outside_profile m ≡ None) × (¬ SpellsCore bytes m)
+RefusesLowering bytes _ m = ⊥
 
--- this is the step that refuses the file
-abbrev pub Refuses1 : Refusal → List ℕ → Type 0
-Refuses1 TooLarge bytes = file_limit < length bytes
-Refuses1 (Unreadable fault) bytes = (length bytes ≤ file_limit) × Reads one bytes (Err fault)
-Refuses1 refusal bytes = (length bytes ≤ file_limit) × ((m : Module1) × Reads one bytes (Ok m) × RefusesModule refusal m)
+-- ---- a module of 3.0 that is checked
+
+-- it lies in the profile and is typed
+abbrev pub IsValid3 : Module → Type 0
+IsValid3 m = (outside_profile m ≡ None) × IsTyped m
+
+-- this is the step that refuses it
+abbrev pub RefusesModule3 : Refusal → Module → Type 0
+RefusesModule3 (Outside entry) m = outside_profile m ≡ Some entry
+RefusesModule3 (Part section index) m = (outside_profile m ≡ None) × new.Tells m (Err (new_invalid.Part section index))
+RefusesModule3 (Body place) m = (outside_profile m ≡ None) × new.Tells m (Err (new_invalid.Body place))
+RefusesModule3 _ m = ⊥
+
+-- ---- a module of 1.0 that is checked
+
+-- it has no floats and is typed
+abbrev pub IsValid1 : Module1 → Type 0
+IsValid1 m = (has_floats m ≡ false) × Typed1 m
+
+-- this is the step that refuses it
+abbrev pub RefusesModule1 : Refusal → Module1 → Type 0
+RefusesModule1 Floats m = has_floats m ≡ true
+RefusesModule1 (Part section index) m = (has_floats m ≡ false) × old.Tells m (Err (old_invalid.Part section index))
+RefusesModule1 (Body place) m = (has_floats m ≡ false) × old.Tells m (Err (old_invalid.Body place))
+RefusesModule1 _ m = ⊥
 
 -- ---- the file that a command reads
 
+-- the file can be lowered; a file of a version is valid
+abbrev pub IsFineToLower : List ℕ → Type 0
+IsFineToLower bytes = ReadsWhere (Reads three) (CanLower bytes) bytes
+
+abbrev pub IsValid : Version → List ℕ → Type 0
+IsValid versions.One bytes = ReadsWhere (Reads one) IsValid1 bytes
+IsValid versions.Three bytes = ReadsWhere (Reads three) IsValid3 bytes
+
 abbrev pub IsFine : Command → List ℕ → Type 0
-IsFine (lower input output) bytes = IsFine3 bytes
-IsFine (check1 input) bytes = IsFine1 bytes
+IsFine (lower input output) bytes = IsFineToLower bytes
+IsFine (check version input) bytes = IsValid version bytes
+
+-- this is the step that refuses the file
+abbrev pub RefusesToLower : Refusal → List ℕ → Type 0
+RefusesToLower refusal bytes = RefusedBy (Reads three) (RefusesLowering bytes) refusal bytes
+
+abbrev pub RefusesAsInvalid : Version → Refusal → List ℕ → Type 0
+RefusesAsInvalid versions.One refusal bytes = RefusedBy (Reads one) RefusesModule1 refusal bytes
+RefusesAsInvalid versions.Three refusal bytes = RefusedBy (Reads three) RefusesModule3 refusal bytes
 
 abbrev pub Refuses : Command → Refusal → List ℕ → Type 0
-Refuses (lower input output) refusal bytes = Refuses3 refusal bytes
-Refuses (check1 input) refusal bytes = Refuses1 refusal bytes
+Refuses (lower input output) refusal bytes = RefusesToLower refusal bytes
+Refuses (check version input) refusal bytes = RefusesAsInvalid version refusal bytes
 
 -- the text of a refusal; places and ids are decimal numbers, the highest digit first
 abbrev pub text_of : Refusal → List ℕ
 text_of TooLarge = codes "too large"
 text_of (Unreadable fault) = reading.text_of fault
 text_of Floats = codes "outside: floats"
+text_of (Outside entry) = codes "outside: " ++ outside.text_of entry
 text_of NotBuiltCore = codes "outside: not built core"
 text_of (Part section index) = codes "invalid: part " ++ decimal section ++ codes " " ++ decimal index
 text_of (Body place) = codes "invalid: body " ++ decimal place

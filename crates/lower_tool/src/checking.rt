@@ -1,41 +1,80 @@
-// The verdict on a file of 1.0.
+// The verdict on a file that is checked, in either version.
 
-ghost use Rattle.std.specs.Prelude.{◌≡◌, ◌≤◌, length, false, IfErr, OnOk};
-ghost use Rattle.core1_ast.specs.Floats.{has_floats};
-ghost use Rattle.core1_ast.specs.Typing.{Typed1};
+ghost use Rattle.std.specs.Prelude.{◌≡◌, ◌≤◌, length, IfErr, OnOk};
+ghost use Rattle.wasm_ast.specs.Counts.{Agrees};
+ghost use Rattle.wasm_frame.specs.declared.sections.Version.TheVariants as versions;
 ghost use Rattle.lower_tool.specs.Stops.{IfNotFine};
 ghost use Rattle.module_reading.specs.Limits.{file_limit};
-ghost use Rattle.lower_tool.specs.Verdict.{IsFine1, Refuses1, RefusesModule};
+ghost use Rattle.lower_tool.specs.Verdict.{IsValid, IsValid1, IsValid3, RefusesAsInvalid, RefusesModule1, RefusesModule3};
 
 use crate::verdict::{NotFine, Refusal};
 use core1_ast::floats::has_floats;
 use core1_ast::module::Module1;
 use core1_bytes::read1;
+use pass_stack::outside_profile;
+use read_new::read;
 use std::alloc::Global;
 use valid_core1::validate1;
+use wasm_ast::module::Module;
+use wasm_frame::sections::Version;
 
-/// Whether bytes spell a valid module of 1.0 within the limits. All others are refused by the first step of the verdict
-/// that holds: they cannot be read, they have floats, a part or a body is not typed.
-pub fn check_bytes(alloc: Global, bytes: &[u8]) -> Result<(), NotFine>
+/// Whether bytes spell a valid module of this version within the limits, and one of 3.0 that lies in the profile. All
+/// others are refused by the first step of the verdict that holds.
+pub fn check_bytes(alloc: Global, version: Version, bytes: &[u8]) -> Result<(), NotFine>
     requires { length bytes.now ≤ file_limit }
-    ensures fine { OnOk result (IsFine1 bytes.now) }
-    ensures refused { IfErr result (λ fault. IfNotFine fault (λ refusal. Refuses1 refusal bytes.now)) }
+    ensures fine { OnOk result (IsValid version bytes.now) }
+    ensures refused { IfErr result (λ fault. IfNotFine fault (λ refusal. RefusesAsInvalid version refusal bytes.now)) }
 {
-    let module = read1(alloc, bytes)?;
-    check_module(alloc, &module)
+    match version {
+        Version::One => check1_bytes(alloc, bytes),
+        Version::Three => check3_bytes(alloc, bytes),
+    }
 }
 
-/// Whether a module that was read has no floats and is typed.
-fn check_module(alloc: Global, module: &Module1) -> Result<(), NotFine>
-    requires { length module.now.funcs ≡ length module.now.codes }
-    ensures fine { OnOk result ((has_floats module.now ≡ false) × Typed1 module.now) }
-    ensures refused { IfErr result (λ fault. IfNotFine fault (λ refusal. RefusesModule refusal module.now)) }
+fn check1_bytes(alloc: Global, bytes: &[u8]) -> Result<(), NotFine>
+    requires { length bytes.now ≤ file_limit }
+    ensures fine { OnOk result (IsValid versions.One bytes.now) }
+    ensures refused { IfErr result (λ fault. IfNotFine fault (λ refusal. RefusesAsInvalid versions.One refusal bytes.now)) }
 {
-    if has_floats(module) {
+    let source = read1(alloc, bytes)?;
+    check1_module(alloc, &source)
+}
+
+/// Whether a module of 1.0 that was read has no floats and is typed.
+fn check1_module(alloc: Global, source: &Module1) -> Result<(), NotFine>
+    requires { length source.now.funcs ≡ length source.now.codes }
+    ensures fine { OnOk result (IsValid1 source.now) }
+    ensures refused { IfErr result (λ fault. IfNotFine fault (λ refusal. RefusesModule1 refusal source.now)) }
+{
+    if has_floats(source) {
         return Err(NotFine::Refused(Refusal::Floats));
     }
-    match validate1(alloc, module) {
+    match validate1(alloc, source) {
         Ok(_) => Ok(()),
+        Err(invalid) => Err(NotFine::from(invalid)),
+    }
+}
+
+fn check3_bytes(alloc: Global, bytes: &[u8]) -> Result<(), NotFine>
+    requires { length bytes.now ≤ file_limit }
+    ensures fine { OnOk result (IsValid versions.Three bytes.now) }
+    ensures refused { IfErr result (λ fault. IfNotFine fault (λ refusal. RefusesAsInvalid versions.Three refusal bytes.now)) }
+{
+    let source = read(alloc, bytes)?;
+    check3_module(alloc, &source)
+}
+
+/// Whether a module of 3.0 that was read lies in the profile and is typed. One typed body is kept at a time.
+fn check3_module(alloc: Global, source: &Module) -> Result<(), NotFine>
+    requires { Agrees source.now }
+    ensures fine { OnOk result (IsValid3 source.now) }
+    ensures refused { IfErr result (λ fault. IfNotFine fault (λ refusal. RefusesModule3 refusal source.now)) }
+{
+    if let Some(entry) = outside_profile(alloc, source)? {
+        return Err(NotFine::Refused(Refusal::Outside(entry)));
+    }
+    match valid_mod::check(alloc, source) {
+        Ok(()) => Ok(()),
         Err(invalid) => Err(NotFine::from(invalid)),
     }
 }

@@ -213,7 +213,7 @@ fn sections_behind_the_head(rt: HostRuntime) -> Result<(), Fail> {
         ),
         (
             b"\x01\x06\x01\x60\x01\x7F\x01\x7F\x03\x02\x01\x00\x07\x0B\x01\x07lower.f\x00\x00\x0A\x07\x01\x05\x00\x20\x00\xC0\x0B",
-            "refused: outside: not built core\n",
+            "refused: outside: reserved name 0\n",
         ),
         (
             b"\x01\x06\x01\x60\x01\x7F\x01\x7F\x03\x02\x01\x00\x07\x05\x01\x01f\x00\x00\x0A\x09\x01\x07\x00\x20\x00\x20\x00\x6B\x0B",
@@ -287,17 +287,107 @@ fn files_of_1_0(rt: HostRuntime) -> Result<(), Fail> {
     for (sections, status, printed) in rows {
         let mut bytes = EXTEND[..8].to_vec(alloc)?;
         bytes.extend_from_slice(sections)?;
-        assert!(rt; is_checked(alloc, bytes, CALM, status, printed)?);
+        assert!(rt; is_checked(alloc, "check1", bytes, CALM, status, printed)?);
     }
     // The lowered example; what it was lowered from has an instruction that 1.0 lacks.
-    assert!(rt; is_checked(alloc, LOWERED.to_vec(alloc)?, CALM, 0, "ok\n")?);
-    assert!(rt; is_checked(alloc, EXTEND.to_vec(alloc)?, CALM, 1, "refused: body 0\n")?);
+    assert!(rt; is_checked(alloc, "check1", LOWERED.to_vec(alloc)?, CALM, 0, "ok\n")?);
+    assert!(rt;
+        is_checked(
+            alloc,
+            "check1",
+            EXTEND.to_vec(alloc)?,
+            CALM,
+            1,
+            "refused: body 0\n"
+        )?
+    );
     Ok(())
 }
 
-/// Whether `check1` of a file ends with this status and prints this.
+#[test]
+fn files_of_3_0(rt: HostRuntime) -> Result<(), Fail> {
+    let alloc = rt.alloc();
+    // What stands behind the head: nothing, a count of 5 and of 6 bytes; six modules outside the profile; an empty body
+    // of type [] -> [i32], a memory whose greatest size is below its least, and that with a reserved name; code behind
+    // unreachable that is typed and that is not; a data segment at an imported i32 global plus 1.
+    let rows: [(&[u8], u8, &str); 15] = [
+        (b"", 0, "ok\n"),
+        (b"\x01\x05\x80\x80\x80\x80\x00", 0, "ok\n"),
+        (
+            b"\x01\x06\x80\x80\x80\x80\x80\x00",
+            1,
+            "refused: section 0\n",
+        ),
+        (
+            b"\x05\x05\x02\x00\x00\x00\x00\x07\x05\x01\x01m\x02\x00",
+            1,
+            "refused: outside: memory moved\n",
+        ),
+        (b"\x01\x05\x01`\x01}\x00", 1, "refused: outside: floats\n"),
+        (
+            b"\x01\x04\x01`\x00\x00\x03\x02\x01\x00\x07\x0D\x01\x09lower.r.1\x00\x00\x0A\x04\x01\x02\x00\x0B",
+            1,
+            "refused: outside: reserved name 0\n",
+        ),
+        (
+            b"\x04\x04\x01p\x00\x00\x07\x05\x01\x01t\x01\x00",
+            1,
+            "refused: outside: exported table\n",
+        ),
+        (
+            b"\x04\x04\x01i\x00\x00",
+            1,
+            "refused: outside: exnref table\n",
+        ),
+        (
+            b"\x02\x08\x01\x01e\x01i\x03\x7F\x01",
+            1,
+            "refused: outside: imported mutable global\n",
+        ),
+        (
+            b"\x01\x05\x01`\x00\x01\x7F\x03\x02\x01\x00\x0A\x04\x01\x02\x00\x0B",
+            1,
+            "refused: invalid: body 0\n",
+        ),
+        (
+            b"\x05\x04\x01\x01\x02\x01",
+            1,
+            "refused: invalid: part 5 0\n",
+        ),
+        (
+            b"\x05\x04\x01\x01\x02\x01\x07\x0A\x01\x06lower.\x00\x00",
+            1,
+            "refused: outside: reserved name 0\n",
+        ),
+        (
+            b"\x01\x05\x01`\x00\x01\x7F\x03\x02\x01\x00\x0A\x06\x01\x04\x00\x00j\x0B",
+            0,
+            "ok\n",
+        ),
+        (
+            b"\x01\x05\x01`\x00\x01\x7F\x03\x02\x01\x00\x0A\x08\x01\x06\x00\x00B\x00j\x0B",
+            1,
+            "refused: invalid: body 0\n",
+        ),
+        (
+            b"\x02\x08\x01\x01e\x01i\x03\x7F\x00\x05\x03\x01\x00\x01\x0B\x0A\x01\x00#\x00A\x01j\x0B\x01a",
+            0,
+            "ok\n",
+        ),
+    ];
+    for (sections, status, printed) in rows {
+        let mut bytes = EXTEND[..8].to_vec(alloc)?;
+        bytes.extend_from_slice(sections)?;
+        assert!(rt; is_checked(alloc, "check3", bytes, CALM, status, printed)?);
+    }
+    assert!(rt; is_checked(alloc, "check3", EXTEND.to_vec(alloc)?, CALM, 0, "ok\n")?);
+    Ok(())
+}
+
+/// Whether `check1` or `check3` of a file ends with this status and prints this.
 fn is_checked(
     alloc: Global,
+    word: &str,
     bytes: Vec<u8>,
     failing: Failing,
     status: u8,
@@ -310,7 +400,7 @@ fn is_checked(
         printed,
         written: None,
     };
-    comes_to(alloc, &["check1", "a"], bytes, failing, outcome)
+    comes_to(alloc, &[word, "a"], bytes, failing, outcome)
 }
 
 #[test]
@@ -330,7 +420,16 @@ fn one_fault_of_a_check(rt: HostRuntime) -> Result<(), Fail> {
             print,
             ..CALM
         };
-        assert!(rt; is_checked(alloc, LOWERED.to_vec(alloc)?, failing, status, printed)?);
+        assert!(rt;
+            is_checked(
+                alloc,
+                "check1",
+                LOWERED.to_vec(alloc)?,
+                failing,
+                status,
+                printed
+            )?
+        );
     }
     Ok(())
 }
@@ -339,10 +438,11 @@ fn one_fault_of_a_check(rt: HostRuntime) -> Result<(), Fail> {
 fn other_words_are_no_command(rt: HostRuntime) -> Result<(), Fail> {
     let alloc = rt.alloc();
     // The words, which call of print fails, the status, and what is printed.
-    let rows: [(&[&str], u64, u8, &str); 8] = [
+    let rows: [(&[&str], u64, u8, &str); 9] = [
         (&["lower", "absent", "b"], 0, 3, "cannot read\n"),
         (&["check1", "absent"], 0, 3, "cannot read\n"),
         (&["check1"], 0, 2, "usage\n"),
+        (&["check2", "a"], 0, 2, "usage\n"),
         (&["check1", "a", "b"], 0, 2, "usage\n"),
         (&["lower", "a"], 0, 2, "usage\n"),
         (&["lower", "a", "b", "16"], 0, 2, "usage\n"),

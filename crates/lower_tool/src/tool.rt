@@ -14,8 +14,8 @@ ghost use Rattle.lower_tool.specs.Headline.{Same};
 ghost use Rattle.lower_tool.specs.MappedInterface.{SameInterface};
 ghost use Rattle.lower_tool.specs.Statuses.{Prints, AppendsFront, Lowered, CutShort, TakesWithinLimit, line};
 ghost use Rattle.lower_tool.specs.Stops.{line_of, status_of};
-ghost use Rattle.lower_tool.specs.Verdict.{IsFine, IsFine1, IsFine3, IsRefusal};
-ghost use Rattle.lower_tool.specs.Words.{input_of, IsCommand, ByWords, IfWords, IfLower, IfCheck1};
+ghost use Rattle.lower_tool.specs.Verdict.{IsFine, IsFineToLower, IsValid, IsRefusal};
+ghost use Rattle.lower_tool.specs.Words.{input_of, IsCommand, ByWords, IfWords, IfLower, IfCheck};
 
 mod command;
 mod input;
@@ -48,7 +48,7 @@ pub fn tool<F: Files, S: Sink>(alloc: Global, words: &Texts, files: &mut F, out:
     // number of turns, in at most 4 d + 16 live frames. The output has nothing that our meaning of 1.0 does not cover.
     ensures lowered { result ≡ 0 → IfLower words.now (Lowered (F.holds files.old) (F.holds files.new)
         (λ bytes written. (m : Module) × SpellsCore bytes m × ((m1 : Module1) × Spells1 written m1 × Typed1 m1 × IsCovered m1 × SameInterface m m1 × Same 4 16 m m1 4096))) }
-    ensures valid { result ≡ 0 → IfCheck1 words.now (λ input. WhereTold (F.holds files.old) input IsFine1) }
+    ensures valid { result ≡ 0 → IfCheck words.now (λ version input. WhereTold (F.holds files.old) input (IsValid version)) }
     ensures refused { result ≡ 1 → ByWords words.now (λ command. (text : List ℕ) × WhereTold (F.holds files.old) (input_of command) (λ bytes. IsRefusal command bytes text)
         × Prints (S.written out.old) (S.written out.new) (S.faults out.old) (S.faults out.new) (line (codes "refused: " ++ text))) }
     ensures refuses { IfWords words.now (λ command. Told (F.holds files.old) (input_of command) (λ bytes. ¬ IsFine command bytes)
@@ -57,16 +57,16 @@ pub fn tool<F: Files, S: Sink>(alloc: Global, words: &Texts, files: &mut F, out:
 
     ensures written { result ≡ 4 → IfLower words.now (λ input output. Rose (F.write_faults files.old) (F.write_faults files.new)) }
     ensures cut { result ≡ 4 → IfLower words.now (CutShort (F.holds files.old) (F.holds files.new)) }
-    ensures printed { result ≡ 4 → IfCheck1 words.now (λ input. Rose (S.faults out.old) (S.faults out.new)) }
-    ensures cut_line { result ≡ 4 → IfCheck1 words.now (λ input. AppendsFront (S.written out.old) (S.written out.new) (line (codes "ok"))) }
+    ensures printed { result ≡ 4 → IfCheck words.now (λ version input. Rose (S.faults out.old) (S.faults out.new)) }
+    ensures cut_line { result ≡ 4 → IfCheck words.now (λ version input. AppendsFront (S.written out.old) (S.written out.new) (line (codes "ok"))) }
 
-    ensures complete { IfLower words.now (λ input output. Told (F.holds files.old) input IsFine3
+    ensures complete { IfLower words.now (λ input output. Told (F.holds files.old) input IsFineToLower
         → ¬ Rose (F.read_faults files.old) (F.read_faults files.new) → ¬ Rose (F.write_faults files.old) (F.write_faults files.new) → (result ≡ 0) ⊎ (result ≡ 5)) }
-    ensures complete_check { IfCheck1 words.now (λ input. Told (F.holds files.old) input IsFine1
+    ensures complete_check { IfCheck words.now (λ version input. Told (F.holds files.old) input (IsValid version)
         → ¬ Rose (F.read_faults files.old) (F.read_faults files.new) → ¬ Rose (S.faults out.old) (S.faults out.new) → (result ≡ 0) ⊎ (result ≡ 5)) }
 
     ensures silent { (result ≡ 0) ⊎ (result ≡ 4) → IfLower words.now (λ input output. out.new ≡ out.old) }
-    ensures prints_ok { result ≡ 0 → IfCheck1 words.now (λ input. Appends (S.written out.old) (S.written out.new) (line (codes "ok"))) }
+    ensures prints_ok { result ≡ 0 → IfCheck words.now (λ version input. Appends (S.written out.old) (S.written out.new) (line (codes "ok"))) }
     ensures prints_usage { result ≡ 2 → Prints (S.written out.old) (S.written out.new) (S.faults out.old) (S.faults out.new) (line (codes "usage")) }
     ensures prints_read { result ≡ 3 → Prints (S.written out.old) (S.written out.new) (S.faults out.old) (S.faults out.new) (line (codes "cannot read")) }
     ensures prints_memory { result ≡ 5 → Prints (S.written out.old) (S.written out.new) (S.faults out.old) (S.faults out.new) (line (codes "out of memory")) }
@@ -75,7 +75,7 @@ pub fn tool<F: Files, S: Sink>(alloc: Global, words: &Texts, files: &mut F, out:
     ensures held { result ≢ 0 → result ≢ 4 → F.holds files.new ≡ F.holds files.old }
     ensures created { result ≢ 0 → result ≢ 4 → F.created files.new ≡ F.created files.old }
     ensures writes { result ≢ 0 → result ≢ 4 → F.write_faults files.new ≡ F.write_faults files.old }
-    ensures reads_only { IfCheck1 words.now (λ input. (F.holds files.new ≡ F.holds files.old) × (F.created files.new ≡ F.created files.old)
+    ensures reads_only { IfCheck words.now (λ version input. (F.holds files.new ≡ F.holds files.old) × (F.created files.new ≡ F.created files.old)
         × (F.write_faults files.new ≡ F.write_faults files.old)) }
     ensures taken { result ≢ 0 → result ≢ 4 → IsTrue (F.is_reading files.new)
         → IfWords words.now (λ command. IfSome (F.holds files.old) (λ held. TakesWithinLimit (held (input_of command)) (F.left files.new))) }

@@ -2,14 +2,15 @@
 
 ghost use Rattle.std.specs.Prelude.{◌≡◌, Some};
 ghost use Rattle.lower_tool.specs.Verdict.{text_of};
-ghost use Rattle.lower_tool.specs.Stops.{of_reading, of_typing};
+ghost use Rattle.lower_tool.specs.Stops.{of_reading, of_typing, of_typing1};
 ghost use Rattle.lower_tool.specs.declared.verdict.NotFine.TheVariants.{Memory};
 
 use module_reading::ReadFault;
+use pass_stack::Outside;
 use std::alloc::AllocError;
 use std::fmt;
 use thiserror::Error;
-use valid_core1::Invalid;
+use valid_mod::Invalid;
 
 /// The first step of the verdict that refuses a file.
 #[derive(Debug, Drop, Error)]
@@ -20,7 +21,9 @@ pub enum Refusal {
     Unreadable(ReadFault),
     /// Floats occur in the module of 1.0.
     Floats,
-    /// The module can be read, and is no core module of 3.0.
+    /// The module of 3.0 lies outside the profile, by this entry of its list.
+    Outside(Outside),
+    /// The module lies in the profile, and is no core module of 3.0.
     NotBuiltCore,
     /// Of the parts of the module, the first that is not typed: the id of its section, and its place in that section.
     Part(u8, u32),
@@ -36,6 +39,7 @@ impl fmt::Display for Refusal {
             Refusal::TooLarge => write!(f, "too large"),
             Refusal::Unreadable(fault) => write!(f, "{fault}"),
             Refusal::Floats => write!(f, "outside: floats"),
+            Refusal::Outside(entry) => write!(f, "outside: {entry}"),
             Refusal::NotBuiltCore => write!(f, "outside: not built core"),
             Refusal::Part(section, index) => write!(f, "invalid: part {section} {index}"),
             Refusal::Body(place) => write!(f, "invalid: body {place}"),
@@ -69,6 +73,20 @@ impl From<ReadFault> for NotFine {
         match error {
             ReadFault::Memory(error) => NotFine::Memory(error),
             fault => NotFine::Refused(Refusal::Unreadable(fault)),
+        }
+    }
+}
+
+impl From<valid_core1::Invalid> for NotFine {
+    ghost from_gives = { λ error fault. fault ≡ of_typing1 error };
+
+    fn from(error: valid_core1::Invalid) -> NotFine {
+        match error {
+            valid_core1::Invalid::Part { section, index } => {
+                NotFine::Refused(Refusal::Part(section, index))
+            }
+            valid_core1::Invalid::Body(place) => NotFine::Refused(Refusal::Body(place)),
+            valid_core1::Invalid::Memory(error) => NotFine::Memory(error),
         }
     }
 }

@@ -3,14 +3,15 @@ ghost use Rattle.lower_tool.specs.Commands.{command_of};
 ghost use Rattle.lower_tool.specs.Words.{IsCommand, words_of, input_of};
 
 use num_core::lists::Text;
+use wasm_frame::sections::Version;
 
 /// A command with the names that its words give.
 #[derive(Clone, Copy)]
 pub enum Command<'a> {
     /// `lower IN OUT`: OUT becomes the lowered module of IN.
     Lower(&'a str, &'a str),
-    /// `check1 IN`: whether IN is a valid module of 1.0.
-    Check1(&'a str),
+    /// `check1 IN` or `check3 IN`: whether IN is a valid module of 1.0 or of 3.0.
+    Check(Version, &'a str),
 }
 
 impl<'a> Command<'a> {
@@ -19,7 +20,7 @@ impl<'a> Command<'a> {
         ensures { result.now ≡ input_of (command_of self.entry) }
     {
         match self {
-            Command::Lower(input, _) | Command::Check1(input) => input,
+            Command::Lower(input, _) | Command::Check(_, input) => input,
         }
     }
 }
@@ -32,7 +33,12 @@ pub fn parse(words: &[Text]) -> Option<Command<'_>>
         [word, input, output] if word.as_str() == "lower" => {
             Some(Command::Lower(input.as_str(), output.as_str()))
         }
-        [word, input] if word.as_str() == "check1" => Some(Command::Check1(input.as_str())),
+        [word, input] if word.as_str() == "check1" => {
+            Some(Command::Check(Version::One, input.as_str()))
+        }
+        [word, input] if word.as_str() == "check3" => {
+            Some(Command::Check(Version::Three, input.as_str()))
+        }
         _ => None,
     }
 }

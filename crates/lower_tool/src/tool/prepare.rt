@@ -51,8 +51,8 @@ fn make<'a>(alloc: Global, command: Command<'a>, bytes: &[u8]) -> Result<Product
 {
     match command {
         Command::Lower(_, output) => Ok(Product::File(output, lower_bytes(alloc, bytes)?)),
-        Command::Check1(_) => {
-            check_bytes(alloc, bytes)?;
+        Command::Check(version, _) => {
+            check_bytes(alloc, version, bytes)?;
             Ok(Product::Printed(Bytes::from_slice(alloc, b"ok\n")?))
         }
     }

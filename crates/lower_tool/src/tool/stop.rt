@@ -11,8 +11,8 @@ use std::fmt;
 use std::fmt::Write;
 use thiserror::Error;
 
-/// A line of at most 40 bytes.
-pub type Line = ArrayString<40>;
+/// A line of at most 48 bytes.
+pub type Line = ArrayString<48>;
 
 /// Why a command stops before it writes.
 #[derive(Debug, Drop, Error)]

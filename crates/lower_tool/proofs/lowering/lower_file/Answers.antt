@@ -1,8 +1,11 @@
-use Rattle.lower_tool.proofs.Refusals.{not_core}
+use Rattle.std.proofs.Common.{◌≡◌, None, Some, sym, ◌∙◌, refl, Option}
 use Rattle.lower_tool.proofs.lowering.lower_file.Goals as goal
 
--- the file spells one module alone, and that is not the core module
-pub returns-then-not-branch-clause-refused : goal.returns-then-not-branch-clause-refused
-returns-then-not-branch-clause-refused c =
-    let is_core = c.in_ok-is_core_file.ensures in
-    (c.requires.within, (c.args.source.now, c.requires.reads), not_core c.args.file.now.bytes c.args.source.now c.requires.reads (λ spells. let no : ⊥ = cc (is_core.1 spells, c.if-not-branch.true) in no))
+none_of : {A : Type 0} (o : Option A) → ((x : A) → o ≡ Some x → ⊥) → o ≡ None
+none_of None h = refl
+none_of (Some x) h = absurd (h x refl)
+
+-- it has no entry of the list, and it is a core module
+pub returns-clause-fine : goal.returns-clause-fine
+returns-clause-fine c =
+    (sym c.in_ok-entry.ensures ∙ none_of c.in_ok-entry.field-0 c.in_default.not-Some, c.in_ok-is_core_file.ensures.0 c.if-not-branch.false)

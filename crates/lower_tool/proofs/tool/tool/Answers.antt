@@ -5,7 +5,7 @@ use Rattle.lower_tool.specs.Products.{IfFile}
 use Rattle.lower_tool.specs.Statuses.{Prints, LeavesFront}
 use Rattle.lower_tool.specs.Stops.{line_of, status_of}
 use Rattle.lower_tool.specs.Verdict.{IsFine, text_of}
-use Rattle.lower_tool.specs.Words.{Command, lower, check1, input_of}
+use Rattle.lower_tool.specs.Words.{Command, lower, check, input_of}
 use Rattle.lower_tool.specs.declared.tool.stop.Stop.{Stop}
 use Rattle.lower_tool.proofs.Delivering.{one_command, Made, lowers, cuts}
 use Rattle.lower_tool.proofs.Stopping.{refused_stop, told_text, fine_stops}
@@ -17,7 +17,7 @@ pub returns-in_default-clause-complete : goal.returns-in_default-clause-complete
 returns-in_default-clause-complete g c = λ input output words fine reads writes. absurd (c.in_default.ensures (lower input output, c.as_slice.ensures ∙ words))
 
 pub returns-in_default-clause-complete_check : goal.returns-in_default-clause-complete_check
-returns-in_default-clause-complete_check g c = λ input words fine reads writes. absurd (c.in_default.ensures (check1 input, c.as_slice.ensures ∙ words))
+returns-in_default-clause-complete_check g c = λ version input words fine reads writes. absurd (c.in_default.ensures (check version input, c.as_slice.ensures ∙ words))
 
 -- ---- what was made is handed out
 
@@ -60,9 +60,9 @@ returns-in-Err-clause-complete g c = λ input output words fine reads writes.
     fine_stops command held (input_of command) c.in-Err.stop c.report.result c.in-Err.ensures.refused (λ e. reads (c.in-Err.ensures.read (ap (λ stop. Err stop) e))) c.report.ensures.status told
 
 pub returns-in-Err-clause-complete_check : goal.returns-in-Err-clause-complete_check
-returns-in-Err-clause-complete_check g c = λ input words fine reads writes.
+returns-in-Err-clause-complete_check g c = λ version input words fine reads writes.
     let command = command_of c.in-Some.command in
     let held = g.F.Files.holds c.args.files.now in
-    let same = one_command command (check1 input) (sym c.in-Some.ensures ∙ (c.as_slice.ensures ∙ words)) in
+    let same = one_command command (check version input) (sym c.in-Some.ensures ∙ (c.as_slice.ensures ∙ words)) in
     let told = subst (λ (d : Command). Told held (input_of d) (IsFine d)) (sym same) fine in
     fine_stops command held (input_of command) c.in-Err.stop c.report.result c.in-Err.ensures.refused (λ e. reads (c.in-Err.ensures.read (ap (λ stop. Err stop) e))) c.report.ensures.status told

@@ -7,7 +7,7 @@ use Rattle.lower_tool.proofs.tool.command.parse.Goals as goal
 pub returns-in-len3 : goal.returns-in-len3
 returns-in-len3 c =
     let all = three_items c.args.words.now c.word-item-then-words-lt4.result c.input-item-then-words-lt4.result c.output-item.result c.in-len3.len_at_least c.in-len3.len_below c.word-item-then-words-lt4.is c.input-item-then-words-lt4.is c.output-item.is in
-    let word : c.as_str-then-words-lt4.result.now ≡ codes "lower" = (bytes_eq-Decides _ _).0 (sym c.if-eq-2.ensures) in
+    let word : c.as_str-then-words-lt4.result.now ≡ codes "lower" = (bytes_eq-Decides _ _).0 (sym c.if-eq-3.ensures) in
     cc
 
 -- the first word is `check1`, and there are two
@@ -15,4 +15,11 @@ pub returns-in-len2 : goal.returns-in-len2
 returns-in-len2 c =
     let all = two_items c.args.words.now c.word-item.result c.input-item.result c.in-len2.len_at_least c.in-len2.len_below c.word-item.is c.input-item.is in
     let word : c.as_str.result.now ≡ codes "check1" = (bytes_eq-Decides _ _).0 (sym c.if-eq.ensures) in
+    cc
+
+-- the first word is `check3`, and there are two
+pub returns-in-len2-2 : goal.returns-in-len2-2
+returns-in-len2-2 c =
+    let all = two_items c.args.words.now c.word-item-then-words-lt3.result c.input-item-then-words-lt3.result c.in-len2.len_at_least c.in-len2.len_below c.word-item-then-words-lt3.is c.input-item-then-words-lt3.is in
+    let word : c.as_str-then-words-lt3.result.now ≡ codes "check3" = (bytes_eq-Decides _ _).0 (sym c.if-eq-2.ensures) in
     cc
