@@ -7,14 +7,13 @@ in seconds and its ratio. Where wasm-validate is not on the path, only the first
 """
 import os
 import random
-import resource
 import shutil
-import subprocess
 import sys
 
 from pathlib import Path
 
 from spelling import number, section, vector
+from timing import timed
 
 I32 = b"\x7f"
 END = b"\x0b"
@@ -87,13 +86,6 @@ def files(megabytes):
     }
 
 
-def cpu(words):
-    before = resource.getrusage(resource.RUSAGE_CHILDREN)
-    status = subprocess.run(words, stdout=subprocess.DEVNULL, stderr=subprocess.DEVNULL).returncode
-    after = resource.getrusage(resource.RUSAGE_CHILDREN)
-    return status, after.ru_utime + after.ru_stime - before.ru_utime - before.ru_stime
-
-
 def main():
     directory = Path(sys.argv[1])
     directory.mkdir(parents=True, exist_ok=True)
@@ -103,10 +95,10 @@ def main():
     for name, content in files(megabytes).items():
         path = directory / (name + ".wasm")
         path.write_bytes(content)
-        status, ours = cpu([program, "check1", str(path)])
+        status, ours, _ = timed([program, "check1", str(path)])
         line = f"{name}: {len(content)} bytes, status {status}, {ours:.3f} s"
         if other:
-            status, theirs = cpu([other, str(path)])
+            status, theirs, _ = timed([other, str(path)])
             line += f"; wasm-validate status {status}, {theirs:.3f} s, ratio {ours / max(theirs, 0.001):.2f}"
         print(line)
 
