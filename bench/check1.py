@@ -5,15 +5,10 @@ Writes typed modules of WebAssembly 1.0 into the directory: one of so many megab
 functions of ordinary code, and hostile ones of one kind each. Then runs both programs on each and prints their CPU time
 in seconds and its ratio. Where wasm-validate is not on the path, only the first is timed.
 """
-import os
 import random
-import shutil
-import sys
-
-from pathlib import Path
 
 from spelling import number, section, vector
-from timing import timed
+from timing import compared
 
 I32 = b"\x7f"
 END = b"\x0b"
@@ -87,20 +82,8 @@ def files(megabytes):
 
 
 def main():
-    directory = Path(sys.argv[1])
-    directory.mkdir(parents=True, exist_ok=True)
-    megabytes = int(sys.argv[2]) if len(sys.argv) > 2 else 8
-    program = os.environ.get("WASM1", "./wasm1")
-    other = shutil.which("wasm-validate")
-    for name, content in files(megabytes).items():
-        path = directory / (name + ".wasm")
-        path.write_bytes(content)
-        status, ours, _ = timed([program, "check1", str(path)])
-        line = f"{name}: {len(content)} bytes, status {status}, {ours:.3f} s"
-        if other:
-            status, theirs, _ = timed([other, str(path)])
-            line += f"; wasm-validate status {status}, {theirs:.3f} s, ratio {ours / max(theirs, 0.001):.2f}"
-        print(line)
+    for _ in compared("check1", files):
+        pass
 
 
 if __name__ == "__main__":

@@ -7,15 +7,9 @@ in seconds and its ratio, and how many bytes of memory check3 had at most for ea
 is not on the path, only the first is timed. The ordinary module is timed once more with a float in its types, which is
 refused after it was read and walked over once: the ratio to that is what checking costs beside reading.
 """
-import os
-import shutil
-import sys
-
-from pathlib import Path
-
 from check1 import END, I32, module, ordinary, plain, sized
 from spelling import number, section, vector
-from timing import timed
+from timing import PROGRAM, compared, timed
 
 HEAD = b"\0asm\x01\0\0\0"
 
@@ -63,23 +57,10 @@ def with_a_float(content):
 
 
 def main():
-    directory = Path(sys.argv[1])
-    directory.mkdir(parents=True, exist_ok=True)
-    megabytes = int(sys.argv[2]) if len(sys.argv) > 2 else 8
-    program = os.environ.get("WASM1", "./wasm1")
-    other = shutil.which("wasm-validate")
-    for name, content in files(megabytes).items():
-        path = directory / (name + ".wasm")
-        path.write_bytes(content)
-        status, ours, memory = timed([program, "check3", str(path)])
-        line = f"{name}: {len(content)} bytes, status {status}, {ours:.3f} s, {memory / len(content):.1f} bytes a byte"
-        if other:
-            status, theirs, _ = timed([other, str(path)])
-            line += f"; wasm-validate status {status}, {theirs:.3f} s, ratio {ours / max(theirs, 0.001):.2f}"
-        print(line)
+    for name, path, content, ours in compared("check3", files):
         if name == "ordinary":
             path.write_bytes(with_a_float(content))
-            status, reading, _ = timed([program, "check3", str(path)])
+            status, reading, _ = timed([PROGRAM, "check3", str(path)])
             print(f"  read alone: status {status}, {reading:.3f} s, ratio {ours / max(reading, 0.001):.2f}")
 
 
