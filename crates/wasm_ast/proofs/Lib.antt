@@ -1,4 +1,3 @@
-pub mod Marks
 pub mod Bodies
 pub mod Flags
 pub mod Pairs

@@ -1,5 +1,3 @@
-pub mod Trace
-pub mod Script
 pub mod Occurrence
 pub mod LateLanes
 pub mod Counts

@@ -1,4 +1,4 @@
-// Modules of WebAssembly 3.0 as data, and the scripts and events that a host and a module share.
+// Modules of WebAssembly 3.0 as data, which features they have, and what keeps them out of the profile.
 #![tactic(auto)]
 
 pub mod facts;
@@ -10,5 +10,4 @@ pub mod marking;
 pub mod module;
 pub mod occurrence;
 pub mod outside;
-pub mod script;
 pub mod spaces;

@@ -1,10 +1,10 @@
-// Copies of code, of a module with every part, and of scripts and events.
+// Copies of code, and of a module with every part.
 
 use crate::fixtures::{
     WIDE, nothing, one, put_body, put_data, put_element, put_export, put_global, put_import,
     put_table, put_type, types_of,
 };
-use num_core::lists::{Text, TryCopy};
+use num_core::lists::TryCopy;
 use sqlite_items::Items;
 use std::alloc::{AllocError, Global};
 use std::test::Fail;
@@ -12,7 +12,6 @@ use wasm_ast::lists::Types;
 use wasm_ast::module::{
     BlockType, Catch, Code, Element, ExportDesc, ImportDesc, Instr, Mode, Module, Op, Table, Ty,
 };
-use wasm_ast::script::{Event, Item, Script, Value, Values};
 
 /// So many blocks in one another, around a nop.
 fn blocks(alloc: Global, depth: u32) -> Result<Instr, AllocError> {
@@ -182,46 +181,5 @@ fn copies_of_the_other_parts_of_a_module(rt: HostRuntime) -> Result<(), Fail> {
     assert_eq!(rt; copy.tags.as_slice(), [4].as_slice());
     assert_eq!(rt; (copy.start, copy.data_count), (Some(7), Some(10)));
     assert_eq!(rt; copy.datas.len(), 1);
-    Ok(())
-}
-
-/// Two values.
-fn values(alloc: Global) -> Result<Values, AllocError> {
-    Items::from_slice(alloc, [Value::I32(1), Value::I32(2)].as_slice())
-}
-
-#[test]
-fn copies_of_a_script(rt: HostRuntime) -> Result<(), Fail> {
-    let alloc = rt.alloc();
-    let name = Text::new(alloc, "f")?;
-    let script = Script {
-        grows: Items::from_slice(alloc, [true, false].as_slice())?,
-        items: one(alloc, Item::Call(name, values(alloc)?))?,
-    };
-    let copy = script.copy(alloc)?;
-    assert_eq!(rt; copy.grows.as_slice(), [true, false].as_slice());
-    let Item::Call(name, arguments) = copy.items.get(0).ok_or("no item")?;
-    assert_eq!(rt; name.as_str(), "f");
-    assert_eq!(rt; arguments.as_slice(), values(alloc)?.as_slice());
-    Ok(())
-}
-
-/// A copy of the event of a call that returned.
-fn copy_of_returned(alloc: Global) -> Result<Event, AllocError> {
-    Event::Returned(3, values(alloc)?, Items::new(alloc)).copy(alloc)
-}
-
-/// The item of a call that returned, and how many results and globals the event has.
-fn returned(event: &Event) -> Option<(u32, usize, usize)> {
-    match event {
-        Event::Returned(item, results, globals) => Some((*item, results.len(), globals.len())),
-        _ => None,
-    }
-}
-
-#[test]
-fn copies_of_events(rt: HostRuntime) -> Result<(), Fail> {
-    let copy = copy_of_returned(rt.alloc())?;
-    assert_eq!(rt; returned(&copy), Some((3, 2, 0)));
     Ok(())
 }

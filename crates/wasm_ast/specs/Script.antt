@@ -1,7 +1,0 @@
--- Words on scripts.
-use Rattle.std.specs.Prelude.{List, Bool}
-use Rattle.wasm_ast.specs.declared.script.items.Script.{Script}
-
--- the script with these answers to growths in place of its own
-abbrev pub regrow : List Bool → Script → Script
-regrow answers s = record s { grows = answers }
