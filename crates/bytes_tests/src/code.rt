@@ -5,14 +5,14 @@ use code_new::code::{measure_expr, read_expr};
 use grammar_kit::FormError;
 use lane_core::operators::{Lane2, LaneExtract, LaneLoad};
 use lane_core::vector::{Shape, V};
-use num_core::operators::{Bin, Load, Store, Width};
+use num_core::operators::{Load, Store};
 use opcode_table::IntOp;
 use std::alloc::Global;
 use std::test::Fail;
 use wasm_ast::module::{BlockType, Catch, FloatCode, FloatImmediates, Instr, MemArg, Op, Ty};
 
-/// What of an instruction is compared.
-#[derive(Clone, Copy, Debug, PartialEq, Eq)]
+/// What of an instruction that is no `Pure` is compared.
+#[derive(Clone, Copy, PartialEq, Eq)]
 enum Shown {
     Return,
     TailCall(u32),
@@ -24,7 +24,6 @@ enum Shown {
     Store(Store, MemArg),
     LoadVector(LaneLoad, MemArg),
     LoadLane(Shape, MemArg, u8),
-    Pure(Op),
     Float(FloatCode, FloatImmediates),
     Other,
 }
@@ -41,7 +40,6 @@ fn show(instr: &Instr) -> Shown {
         Instr::Store(op, at) => Shown::Store(*op, *at),
         Instr::LoadVector(op, at) => Shown::LoadVector(*op, *at),
         Instr::LoadLane(shape, at, lane) => Shown::LoadLane(*shape, *at, *lane),
-        Instr::Pure(op) => Shown::Pure(*op),
         Instr::Float(code, immediates) => Shown::Float(*code, *immediates),
         _ => Shown::Other,
     }
@@ -68,7 +66,7 @@ const NEAR: MemArg = MemArg {
     offset: 0,
 };
 
-static ROWS: [(&[u8], Shown); 12] = [
+static ROWS: [(&[u8], Shown); 8] = [
     (b"\x0F\x0B", Shown::Return),
     (b"\x12\x81\x01\x0B", Shown::TailCall(129)),
     (b"\x11\x01\x02\x0B", Shown::CallIndirect(1, 2)),
@@ -78,23 +76,11 @@ static ROWS: [(&[u8], Shown); 12] = [
         Shown::Store(Store::I64To32, FAR),
     ),
     (b"\x40\x05\x0B", Shown::MemoryGrow(5)),
-    (b"\x41\x7F\x0B", Shown::Pure(Op::I32Const(0xFFFF_FFFF))),
-    (b"\x42\x05\x0B", Shown::Pure(Op::I64Const(5))),
-    (b"\x88\x0B", Shown::Pure(Op::Binary(Width::W64, Bin::ShrU))),
-    (b"\xD0\x69\x0B", Shown::Pure(Op::RefNull(Ty::Exn))),
     (b"\xFC\x0A\x01\x02\x0B", Shown::MemoryCopy(1, 2)),
     (b"\xFC\x11\x04\x0B", Shown::TableFill(4)),
 ];
 
-static VECTOR_ROWS: [(&[u8], Shown); 5] = [
-    (
-        b"\xFD\x0C\x02\x01\0\0\0\0\0\0\0\0\0\0\0\0\0\0\x0B",
-        Shown::Pure(Op::V128Const(V(258))),
-    ),
-    (
-        b"\xFD\x16\x0F\x0B",
-        Shown::Pure(Op::Extract(LaneExtract::I8x16U, 15)),
-    ),
+static VECTOR_ROWS: [(&[u8], Shown); 2] = [
     (
         b"\xFD\x5D\x02\x00\x0B",
         Shown::LoadVector(LaneLoad::Load64Zero, NEAR),
@@ -103,7 +89,6 @@ static VECTOR_ROWS: [(&[u8], Shown); 5] = [
         b"\xFD\x57\x43\x02\xAC\x02\x01\x0B",
         Shown::LoadLane(Shape::I64x2, FAR, 1),
     ),
-    (b"\xFD\xD6\x01\x0B", Shown::Pure(Op::Lanes2(Lane2::I64x2Eq))),
 ];
 
 static FLOAT_ROWS: [(&[u8], Shown); 6] = [
@@ -142,6 +127,48 @@ fn is_shown(alloc: Global, bytes: &[u8], expected: Shown) -> Result<bool, Fail> 
     Ok(shown == expected && left == 0)
 }
 
+static PURE_ROWS: [(&[u8], Op); 6] = [
+    (b"\x41\x7F\x0B", Op::I32Const(0xFFFF_FFFF)),
+    (b"\x42\x05\x0B", Op::I64Const(5)),
+    (b"\xD0\x69\x0B", Op::RefNull(Ty::Exn)),
+    (
+        b"\xFD\x0C\x02\x01\0\0\0\0\0\0\0\0\0\0\0\0\0\0\x0B",
+        Op::V128Const(V(258)),
+    ),
+    (b"\xFD\x16\x0F\x0B", Op::Extract(LaneExtract::I8x16U, 15)),
+    (b"\xFD\xD6\x01\x0B", Op::Lanes2(Lane2::I64x2Eq)),
+];
+
+/// The first instruction of an expression, where it is a `Pure` and nothing stands behind the expression.
+fn first_pure(alloc: Global, bytes: &[u8]) -> Result<Option<Op>, Fail> {
+    let (code, rest) = read_expr(alloc, bytes)?;
+    match code.get(0) {
+        Some(Instr::Pure(op)) if rest.is_empty() => Ok(Some(*op)),
+        _ => Ok(None),
+    }
+}
+
+/// Whether both are one operator, of those that `PURE_ROWS` has.
+fn is_same(found: Op, op: Op) -> bool {
+    match (found, op) {
+        (Op::I32Const(n), Op::I32Const(other)) => n == other,
+        (Op::I64Const(n), Op::I64Const(other)) => n == other,
+        (Op::RefNull(ty), Op::RefNull(other)) => ty == other,
+        (Op::V128Const(v), Op::V128Const(other)) => v == other,
+        (Op::Extract(op, lane), Op::Extract(other, at)) => op == other && lane == at,
+        (Op::Lanes2(op), Op::Lanes2(other)) => op == other,
+        _ => false,
+    }
+}
+
+/// Whether the first instruction of an expression is this one of `PURE_ROWS`, and nothing stands behind the expression.
+fn is_pure(alloc: Global, bytes: &[u8], op: Op) -> Result<bool, Fail> {
+    match first_pure(alloc, bytes)? {
+        Some(found) => Ok(is_same(found, op)),
+        None => Ok(false),
+    }
+}
+
 #[test]
 fn instructions_of_each_form(rt: HostRuntime) -> Result<(), Fail> {
     for (bytes, expected) in &ROWS {
@@ -153,24 +180,36 @@ fn instructions_of_each_form(rt: HostRuntime) -> Result<(), Fail> {
     for (bytes, expected) in &FLOAT_ROWS {
         assert!(rt; is_shown(rt.alloc(), bytes, *expected)?);
     }
+    for (bytes, op) in &PURE_ROWS {
+        assert!(rt; is_pure(rt.alloc(), bytes, *op)?);
+    }
     Ok(())
 }
 
-fn op_of(op: IntOp) -> Op {
-    match op {
-        IntOp::Eqz(width) => Op::Eqz(width),
-        IntOp::Compare(width, op) => Op::Compare(width, op),
-        IntOp::Unary(width, op) => Op::Unary(width, op),
-        IntOp::Binary(width, op) => Op::Binary(width, op),
-        IntOp::Convert(op) => Op::Convert(op),
+/// Whether both are one operator on integers.
+fn is_same_on_integers(found: Op, op: IntOp) -> bool {
+    match (found, op) {
+        (Op::Eqz(w), IntOp::Eqz(v)) => w == v,
+        (Op::Compare(w, op), IntOp::Compare(v, other)) => w == v && op == other,
+        (Op::Unary(w, op), IntOp::Unary(v, other)) => w == v && op == other,
+        (Op::Binary(w, op), IntOp::Binary(v, other)) => w == v && op == other,
+        (Op::Convert(op), IntOp::Convert(other)) => op == other,
+        _ => false,
+    }
+}
+
+/// Whether the first instruction of an expression is this operator, and nothing stands behind the expression.
+fn is_operator(alloc: Global, bytes: &[u8], op: IntOp) -> Result<bool, Fail> {
+    match first_pure(alloc, bytes)? {
+        Some(found) => Ok(is_same_on_integers(found, op)),
+        None => Ok(false),
     }
 }
 
 #[test]
 fn operators_loads_and_stores(rt: HostRuntime) -> Result<(), Fail> {
     for (code, op) in &OPERATORS {
-        let expected = Shown::Pure(op_of(*op));
-        assert!(rt; is_shown(rt.alloc(), &[*code, 0x0B], expected)?, "{code}");
+        assert!(rt; is_operator(rt.alloc(), &[*code, 0x0B], *op)?, "{code}");
     }
     for (code, load) in &LOADS {
         let expected = Shown::Load(*load, NEAR);

@@ -76,9 +76,17 @@ fn is_load(instr: &Instr, op: Load, at: MemArg) -> bool {
     }
 }
 
+/// Whether the instruction is this one, of the kinds that the tables of this crate have.
 fn is_pure(instr: &Instr, op: Op) -> bool {
-    match instr {
-        Instr::Pure(found) => *found == op,
+    let Instr::Pure(found) = instr else {
+        return false;
+    };
+    match (*found, op) {
+        (Op::I32Const(n), Op::I32Const(other)) => n == other,
+        (Op::I64Const(n), Op::I64Const(other)) => n == other,
+        (Op::V128Const(v), Op::V128Const(other)) => v == other,
+        (Op::RefNull(ty), Op::RefNull(other)) => ty == other,
+        (Op::RefIsNull, Op::RefIsNull) => true,
         _ => false,
     }
 }

@@ -5,7 +5,7 @@ use num_core::operators::{Bin, Cmp, Conv, Un, Width};
 
 /// An instruction that takes operands and gives results or traps, and touches no state
 /// (the standard's "Numeric Instructions", "Vector Instructions" and "Reference Instructions").
-#[derive(Clone, Copy, Debug, PartialEq, Eq)]
+#[derive(Clone, Copy)]
 pub enum Op {
     /// i32.const with these 32 bits.
     I32Const(u32),
