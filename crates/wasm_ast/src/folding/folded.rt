@@ -5,7 +5,7 @@ use crate::module::Ty;
 use num_core::operators::{Bin, Width};
 
 /// What a constant expression folds to.
-#[derive(Clone, Copy, Debug, PartialEq, Eq)]
+#[derive(Clone, Copy)]
 pub enum Folded {
     /// i32.const with these 32 bits.
     I32(u32),

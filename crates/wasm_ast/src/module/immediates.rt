@@ -11,7 +11,7 @@ pub struct MemArg {
 
 /// A clause of a try_table. Its label is counted from outside the try_table
 /// (the standard's "Control Instructions", catch clauses).
-#[derive(Clone, Copy, Debug, PartialEq, Eq)]
+#[derive(Clone, Copy, PartialEq, Eq)]
 pub enum Catch {
     /// catch: exceptions of this tag; their payload goes to the label.
     Tag(u32, u32),
@@ -24,7 +24,7 @@ pub enum Catch {
 }
 
 /// The code of an instruction on floats, as the binary format numbers it.
-#[derive(Clone, Copy, Debug, PartialEq, Eq)]
+#[derive(Clone, Copy, PartialEq, Eq)]
 pub enum FloatCode {
     /// A code of one byte.
     Plain(u8),
@@ -35,7 +35,7 @@ pub enum FloatCode {
 }
 
 /// The immediates of an instruction on floats.
-#[derive(Clone, Copy, Debug, PartialEq, Eq)]
+#[derive(Clone, Copy, PartialEq, Eq)]
 pub enum FloatImmediates {
     /// No immediates.
     None,

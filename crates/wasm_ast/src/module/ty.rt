@@ -73,7 +73,7 @@ pub struct Limits {
 }
 
 /// The type of a block (the standard's "Block Types").
-#[derive(Clone, Copy, Debug, PartialEq, Eq)]
+#[derive(Clone, Copy, PartialEq, Eq)]
 pub enum BlockType {
     /// No parameters and no result.
     Empty,
