@@ -35,12 +35,20 @@ shift_right_signed_below n i j above lt =
     let within : i < 2 ^ ((n - j % n) + j % n) = subst (λ w. i < 2 ^ w) all lt in
     extend_signed_below (n - j % n) n (i / 2 ^ (j % n)) less (shr_lt (n - j % n) (j % n) within)
 
+-- the bits that a shift to the left keeps
+pub shifted_up : (j k i : ℕ) → (i * 2 ^ k) % 2 ^ (j + k) ≡ i % 2 ^ j * 2 ^ k
+shifted_up j k i =
+    mod-pow-add (i * 2 ^ k) j k ∙ (let none : (i * 2 ^ k) % 2 ^ k ≡ 0 = mul-mod_left i (2 ^ k) in let back : i * 2 ^ k / 2 ^ k ≡ i = shl-shr i k in rw (back, none) (omega arith))
+
+-- what leaves at the one end
+pub turned_high : (j k i : ℕ) → i < 2 ^ (j + k) → i / 2 ^ j < 2 ^ k
+turned_high j k i lt = shr_lt k j (subst (λ n. i < 2 ^ n) (let e : j + k ≡ k + j = omega arith in e) lt)
+
 -- what leaves at the one end has room at the other
 turned : (j k i : ℕ) → i < 2 ^ (j + k) → (i * 2 ^ k) % 2 ^ (j + k) + i / 2 ^ j < 2 ^ (j + k)
 turned j k i lt =
-    let high : i / 2 ^ j < 2 ^ k = shr_lt k j (subst (λ n. i < 2 ^ n) (let e : j + k ≡ k + j = omega arith in e) lt) in
-    let moved : (i * 2 ^ k) % 2 ^ (j + k) ≡ i % 2 ^ j * 2 ^ k =
-    mod-pow-add (i * 2 ^ k) j k ∙ (let none : (i * 2 ^ k) % 2 ^ k ≡ 0 = mul-mod_left i (2 ^ k) in let back : i * 2 ^ k / 2 ^ k ≡ i = shl-shr i k in rw (back, none) (omega arith)) in
+    let high : i / 2 ^ j < 2 ^ k = turned_high j k i lt in
+    let moved : (i * 2 ^ k) % 2 ^ (j + k) ≡ i % 2 ^ j * 2 ^ k = shifted_up j k i in
     let low : i % 2 ^ j < 2 ^ j = mod-lt i (pow_pos j) in
     let least : i % 2 ^ j + 1 ≤ 2 ^ j = omega arith in
     let all : (i % 2 ^ j + 1) * 2 ^ k ≤ 2 ^ j * 2 ^ k = mul-le-mul_right (2 ^ k) least in

@@ -2,4 +2,5 @@
 #![tactic(auto)]
 
 pub mod lists;
+pub mod operations;
 pub mod operators;
