@@ -1,4 +1,4 @@
-ghost use Rattle.std.specs.Prelude.{◌≡◌, IfOk, IsUtf8};
+ghost use Rattle.std.specs.Prelude.{◌≡◌, IfOk, IsUtf8, string_bytes};
 
 use super::TryCopy;
 use std::alloc::{AllocError, Global};
@@ -25,6 +25,13 @@ impl Text {
     {
         let text = String::from_str(alloc, text)?;
         Ok(Text { text })
+    }
+
+    /// The text that a `String` holds. It takes no memory.
+    pub fn from_string(text: String) -> Text
+        ensures { result ≡ string_bytes text }
+    {
+        Text { text }
     }
 
     /// The text as a `&str`.
