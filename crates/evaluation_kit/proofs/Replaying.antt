@@ -48,7 +48,7 @@ module _ {S : Type 0} (A : Answering S) where
     abbrev pub Replayed : List Bool → Out (World S) R → Out (World S) R → Type 0
     Replayed t o free = (free ≡ freed t o) ⊎ Past o free
 
-    -- a run that begins after Full is over
+    -- a run that begins after Full is over, where a free run can be further on at all
     pub record Over (w : World S) (o : Out (World S) R) : Type 0 where
       pub result : R
       pub is_done : o ≡ Done 0 result
@@ -57,7 +57,7 @@ module _ {S : Type 0} (A : Answering S) where
 
     pub record ReplaysAt (N : ℕ) (j : Option Jump) (m : Run S R) (w : World S) : Type 0 where
       pub onward : (n : ℕ) → n ≤ N → A.Leads w.state (place_of pl.at (m w n)).state
-      pub stops : j ≡ Some Full → (n : ℕ) → n ≤ N → Over w (m w n)
+      pub stops : j ≡ Some Full → (s : S) → A.Beyond w.state s → (n : ℕ) → n ≤ N → Over w (m w n)
       pub replays : (n : ℕ) → n ≤ N → (a t : List Bool) → A.told (place_of pl.at (m w n)).state ≡ A.told w.state ++ a → Replayed t (m w n) (m (free_world (a ++ t) w) n)
 
     replayed_after : (u : ℕ) (t : List Bool) (o free : Out (World S) R) → Replayed t o free → Replayed t (after u o) (after u free)
@@ -69,7 +69,7 @@ module _ {S : Type 0} (A : Answering S) where
     pub done_replays : (N : ℕ) (r : R) (w : World S) → ReplaysAt N (pl.jump r) (λ v n. Done 0 (pl.put v r)) w
     done_replays N r w = record {
       onward = λ n le. subst (λ v. A.Leads w.state v.state) (sym (pl.at_put w r)) (A.stays w.state);
-      stops = λ full n le. record { result = pl.put w r; is_done = refl; beyond = λ s b. subst (λ v. A.Beyond v.state s) (sym (pl.at_put w r)) b; full = pl.jump_put w r ∙ full };
+      stops = λ full s b n le. record { result = pl.put w r; is_done = refl; beyond = λ v b'. subst (λ u. A.Beyond u.state v) (sym (pl.at_put w r)) b'; full = pl.jump_put w r ∙ full };
       replays = λ n le a t e.
           let none = nothing_more (A.told w.state) a (sym (ap (λ v. A.told v.state) (pl.at_put w r)) ∙ e) in
           let there = ap (λ v. pl.put (free_world t v) (pl.put w r)) (pl.at_put w r) ∙ pl.put_twice (free_world t w) w r in
@@ -92,7 +92,7 @@ module _ {S : Type 0} (A : Answering S) where
       start_again (suc n) le a t e = let no : ⊥ = omega arith in absurd no
 
       pub start_replays : ReplaysAt 0 None (λ v n. turn n v (m v)) w
-      start_replays = record { onward = start_onward; stops = λ e n le. no_jump e; replays = start_again }
+      start_replays = record { onward = start_onward; stops = λ e s b n le. no_jump e; replays = start_again }
 
       module _ (N : ℕ) (h : ReplaysAt N None m w) where
         turn_onward : (n : ℕ) → n ≤ suc N → A.Leads w.state (place_of pl.at (turn n w (m w))).state
@@ -108,12 +108,12 @@ module _ {S : Type 0} (A : Answering S) where
             replayed_after 1 t (m w n) (m (free_world (a ++ t) w) n) (h.replays n less a t (ap (λ v. A.told v.state) (sym (place_of-after pl.at 1 (m w n))) ∙ e))
 
         pub turn_replays : ReplaysAt (suc N) None (λ v n. turn n v (m v)) w
-        turn_replays = record { onward = turn_onward; stops = λ e n le. no_jump e; replays = turn_again }
+        turn_replays = record { onward = turn_onward; stops = λ e s b n le. no_jump e; replays = turn_again }
 
     pub less_replays : (N : ℕ) (j : Option Jump) (m : Run S R) (w : World S) → ReplaysAt (suc N) j m w → ReplaysAt N j m w
     less_replays N j m w h = record {
       onward = λ n le. let more : n ≤ suc N = omega arith in h.onward n more;
-      stops = λ full n le. let more : n ≤ suc N = omega arith in h.stops full n more;
+      stops = λ full s b n le. let more : n ≤ suc N = omega arith in h.stops full s b n more;
       replays = λ n le. let more : n ≤ suc N = omega arith in h.replays n more;
     }
 
@@ -126,22 +126,22 @@ module _ {S : Type 0} (A : Answering S) where
     not_full _ _ sticks e = absurd cc
 
     pub lighter_replays : (N : ℕ) (j i : Option Jump) (m : Run S R) (w : World S) → Lighter j i → ReplaysAt N i m w → ReplaysAt N j m w
-    lighter_replays N j i m w l h = record { onward = h.onward; stops = λ e n le. not_full j i l e; replays = h.replays }
+    lighter_replays N j i m w l h = record { onward = h.onward; stops = λ e s b n le. not_full j i l e; replays = h.replays }
 
     pub deeper_replays : (N d : ℕ) (m : Run S R) (w : World S) → ReplaysAt N None m (deeper d w) → ReplaysAt N None (λ v n. m (deeper d v) n) w
-    deeper_replays N d m w h = record { onward = h.onward; stops = λ e n le. no_jump e; replays = h.replays }
+    deeper_replays N d m w h = record { onward = h.onward; stops = λ e s b n le. no_jump e; replays = h.replays }
 
     pub reads_replays : (X : Type 0) (N : ℕ) (g : World S → X) (m : X → Run S R) (w : World S) → ((a : List Bool) → g (free_world a w) ≡ g w) → ReplaysAt N None (m (g w)) w → ReplaysAt N None (λ v n. m (g v) v n) w
     reads_replays X N g m w s h = record {
       onward = h.onward;
-      stops = λ e n le. no_jump e;
+      stops = λ e s b n le. no_jump e;
       replays = λ n le a t e. subst (λ x. Replayed t (m (g w) w n) (m x (free_world (a ++ t) w) n)) (sym (s (a ++ t))) (h.replays n le a t e);
     }
 
     pub alike_replays : (N : ℕ) (j : Option Jump) (m l : Run S R) (w : World S) → ((v : World S) (n : ℕ) → m v n ≡ l v n) → ReplaysAt N j m w → ReplaysAt N j l w
     alike_replays N j m l w e h = record {
       onward = λ n le. subst (λ o. A.Leads w.state (place_of pl.at o).state) (e w n) (h.onward n le);
-      stops = λ full n le. subst (λ o. Over w o) (e w n) (h.stops full n le);
+      stops = λ full s b n le. subst (λ o. Over w o) (e w n) (h.stops full s b n le);
       replays = λ n le a t told.
           let again = h.replays n le a t (ap (λ o. A.told (place_of pl.at o).state) (e w n) ∙ told) in
           subst (λ o. Replayed t (l w n) o) (e (free_world (a ++ t) w) n) (subst (λ o. Replayed t o (m (free_world (a ++ t) w) n)) (e w n) again);
@@ -158,13 +158,13 @@ module _ {S : Type 0} (A : Answering S) where
         subst (λ v. A.Leads (pl.at r).state v.state) (sym (place_of-after pl'.at u (k r (n - u)))) (following r (n - u) less)
     bind_onward n (Halt h) le = A.stays h.state
 
-    bind_stops : (n : ℕ) (w : World S) (o : Out (World S) R) → n ≤ N → Over pl w o → Over pl' w (bind n o k)
-    bind_stops n w o le over =
+    bind_stops : (n : ℕ) (w : World S) (o : Out (World S) R) (s : S) → A.Beyond w.state s → n ≤ N → Over pl w o → Over pl' w (bind n o k)
+    bind_stops n w o s b le over =
         let r = over.result in
         let less : n - 0 ≤ N = omega arith in
-        let rest = (next r (pl.at r)).stops over.full (n - 0) less in
+        let rest = (next r (pl.at r)).stops over.full s (over.beyond s b) (n - 0) less in
         let there : bind n o k ≡ Done 0 rest.result = ap (λ x. bind n x k) over.is_done ∙ ap (λ x. after 0 (k x (n - 0))) (sym (pl.put_at r)) ∙ ap (after 0) rest.is_done in
-        record { result = rest.result; is_done = there; beyond = λ s b. rest.beyond s (over.beyond s b); full = rest.full }
+        record { result = rest.result; is_done = there; beyond = λ v b'. rest.beyond v (over.beyond v b'); full = rest.full }
 
     bind_again : (s : S) (n : ℕ) (o : Out (World S) R) (free : List Bool → Out (World S) R) → n ≤ N → A.Leads s (place_of pl.at o).state → ((a t : List Bool) → A.told (place_of pl.at o).state ≡ A.told s ++ a → Replayed pl t o (free (a ++ t))) → (a t : List Bool) → A.told (place_of pl'.at (bind n o k)).state ≡ A.told s ++ a → Replayed pl' t (bind n o k) (bind n (free (a ++ t)) k)
     bind_again s n (Done u r) free le l h a t e =
@@ -185,7 +185,7 @@ module _ {S : Type 0} (A : Answering S) where
             subst (λ o. Replayed pl' t (after u (k r (n - u))) (bind n o k)) (sym e) (replayed_after pl' u t (k r (n - u)) (k (pl.put (free_world g (pl.at r)) r) (n - u)) rest)
         bind_done n u r g t other le (inr past) rest =
             let less : n - u ≤ N = omega arith in
-            let over = (next r (pl.at r)).stops past.0 (n - u) less in
+            let over = (next r (pl.at r)).stops past.0 (place_of pl.at other).state past.1 (n - u) less in
             let there : k r (n - u) ≡ Done 0 over.result = ap (λ x. k x (n - u)) (sym (pl.put_at r)) ∙ over.is_done in
             let further = A.beyond_stays (pl.at r).state (place_of pl.at other).state (place_of pl'.at (bind n other k)).state past.1 (bind_onward n other le) in
             inr (subst (λ o. Past pl' (after u o) (bind n other k)) (sym there) (over.full, over.beyond (place_of pl'.at (bind n other k)).state further))
@@ -198,7 +198,7 @@ module _ {S : Type 0} (A : Answering S) where
     pub bind_replays : (j : Option Jump) (m : Run S R) (w : World S) → ReplaysAt pl N j m w → ReplaysAt pl' N j (λ v n. bind n (m v n) k) w
     bind_replays j m w h = record {
       onward = λ n le. A.joins w.state (place_of pl.at (m w n)).state (place_of pl'.at (bind n (m w n) k)).state (h.onward n le) (bind_onward n (m w n) le);
-      stops = λ full n le. bind_stops n w (m w n) le (h.stops full n le);
+      stops = λ full s b n le. bind_stops n w (m w n) s b le (h.stops full s b n le);
       replays = λ n le. bind_again w.state n (m w n) (λ g. m (free_world g w) n) le (h.onward n le) (h.replays n le);
     }
 
@@ -274,7 +274,7 @@ module _ {S : Type 0} (A : Answering S) where
         let p : Plain V S = record { operands = operands; locals = locals; state = w.state } in
         record {
           onward = λ n le. subst (λ s. A.Leads w.state s) (sym (settled_state w (act p))) (owes.leads p);
-          stops = λ e n le. absurd cc;
+          stops = λ e s b n le. absurd cc;
           replays = λ n le a t e. settled_again w (a ++ t) t (act p) (act (free_plain (a ++ t) p)) (owes.again p a t (sym (ap A.told (settled_state w (act p))) ∙ e));
         }
 
@@ -294,7 +294,7 @@ module _ {S : Type 0} (A : Answering S) where
     handler_replays : (h : ℕ → S → Option (Caught V S)) → HandlerReplays h → (N e : ℕ) (c : Conf V S) (w : World S) → ReplaysAt res_place N (Some (Throw e)) (λ v n. Done 0 (taken e (h e v.state) (in_world v c))) w
     handler_replays h owes N e c w = record {
       onward = λ n le. subst (λ s. A.Leads w.state s) (sym (taken_state e w c (h e w.state))) (owes.leads e w.state);
-      stops = λ eq n le. absurd cc;
+      stops = λ eq s b n le. absurd cc;
       replays = λ n le a t eq.
           let told = sym (ap A.told (taken_state e w c (h e w.state))) ∙ eq in
           taken_again e w c a t (h e w.state) (h e (A.free (a ++ t) w.state)) told (owes.again e w.state a t told);

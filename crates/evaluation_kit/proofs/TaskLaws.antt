@@ -1,18 +1,17 @@
 -- What each law asks of the tasks of a host.
-use Rattle.std.proofs.Common.{◌≡◌, ℕ, ◌≤◌, List, [], ◌∷◌, ◌++◌, Bool, Option, Some, None, refl, sym, ap, ◌∙◌, subst, le_refl, inl, inr}
-use Rattle.std.specs.List.{AllByRecursion}
+use Rattle.std.proofs.Common.{◌≡◌, ℕ, List, ◌++◌, Bool, Some, None, refl, sym, ap, ◌∙◌, subst, le_refl, inl}
 use Rattle.evaluation_kit.specs.declared.jump.Jump.{Jump}
 use Rattle.evaluation_kit.specs.declared.jump.Jump.TheVariants.{Full}
 use Rattle.outcome_kit.specs.Outcome.{Done}
-use Rattle.outcome_kit.specs.Code.{Go, Leave, stands}
+use Rattle.outcome_kit.specs.Code.{Go, Leave}
 use Rattle.outcome_kit.proofs.Growing.{Order}
 use Rattle.evaluation_kit.specs.Configurations.{World, PlainRes, Res, in_world}
 use Rattle.evaluation_kit.specs.Tasks.{Status, Task, Change, Enter, placed, plain_result, shown}
-use Rattle.evaluation_kit.proofs.Closure.{res_put, res_at, res_jump}
-use Rattle.evaluation_kit.proofs.Tasks.{OwesTask, status_place, status_at, status_jump}
-use Rattle.evaluation_kit.proofs.Growing.{state_after, Leads, leads_same, at_once, growing}
-use Rattle.evaluation_kit.proofs.Invariants.{Kept, After, PlainAfter, Leaves, KeptBy, keeping}
-use Rattle.evaluation_kit.proofs.Replaying.{Answering, ReplaysAt, Replayed, freed_plain, free_world, replaying, done_replays}
+use Rattle.evaluation_kit.proofs.Closure.{res_put, res_jump}
+use Rattle.evaluation_kit.proofs.Tasks.{OwesTask, status_place, status_at}
+use Rattle.evaluation_kit.proofs.Growing.{state_after, Leads, at_once, growing}
+use Rattle.evaluation_kit.proofs.Invariants.{Kept, After, PlainAfter, Leaves, keeping}
+use Rattle.evaluation_kit.proofs.Replaying.{Answering, ReplaysAt, Replayed, freed_plain, free_world, replaying}
 use Rattle.evaluation_kit.proofs.Cutting.{Bounding, bounded_plain, CutsAt, Cut, bound_world, cutting}
 
 -- the state in a status
@@ -83,11 +82,12 @@ module _ {S : Type 0} (A : Answering S) where
     pub is_full : r ≡ Leave Full state
     pub beyond : (v : S) → A.Beyond s v → A.Beyond state v
 
-  -- what becomes of the result of a call, under its own answers
+  -- what becomes of the result of a call, under its own answers: one by Full ends the run, where a free run can be
+  -- further on
   pub record ShownReplays {V : Type 0} (see : PlainRes V S → Status S) : Type 0 where
     pub leads : (r : PlainRes V S) → A.Leads (state_after r) (status_state (see r))
     pub again : (r : PlainRes V S) (a t : List Bool) → A.told (status_state (see r)) ≡ A.told (state_after r) ++ a → see (freed_plain A (a ++ t) r) ≡ freed_status t (see r)
-    pub ends : (operands locals : List V) (s : S) → EndsFull (see (Leave Full (record { operands = operands; locals = locals; state = s }))) s
+    pub ends : (operands locals : List V) (s v : S) → A.Beyond s v → EndsFull (see (Leave Full (record { operands = operands; locals = locals; state = s }))) s
 
   abbrev pub TaskReplays : {V : Type 0} → Task V S → Type 0
   TaskReplays (Change f) = ChangeReplays f
@@ -100,7 +100,7 @@ module _ {S : Type 0} (A : Answering S) where
   change_replays : (f : S → Status S) → ChangeReplays f → (N : ℕ) (w : World S) → ReplaysAt A status_place N None (λ v n. Done 0 (placed v (f v.state))) w
   change_replays f h N w = record {
     onward = λ n le. subst (λ s. A.Leads w.state s) (sym (placed_state w (f w.state))) (h.leads w.state);
-    stops = λ e n le. absurd cc;
+    stops = λ e s b n le. absurd cc;
     replays = λ n le a t e. placed_again w (a ++ t) t (f w.state) (f (A.free (a ++ t) w.state)) (h.again w.state a t (sym (ap A.told (placed_state w (f w.state))) ∙ e));
   }
 
@@ -127,10 +127,10 @@ module _ {S : Type 0} (A : Answering S) where
     shown_state : (w : World S) (r : Res V S) → (status_at (shown see (res_put w r))).state ≡ status_state (see (seen w r))
     shown_state w r = ap (λ x. (status_at x).state) (shown_is w r) ∙ placed_state w (see (seen w r))
 
-    over_full : (w : World S) (c : Res V S) → res_jump c ≡ Some Full → EndsFull (see (seen w c)) w.state
+    over_full : (w : World S) (c : Res V S) (s : S) → A.Beyond w.state s → res_jump c ≡ Some Full → EndsFull (see (seen w c)) w.state
     unfolding seen
-    over_full w (Go c) e = absurd cc
-    over_full w (Leave j c) e = subst (λ i. EndsFull (see (Leave i (record { operands = c.operands; locals = c.locals; state = w.state }))) w.state) (sym (same_jump j e)) (h.ends c.operands c.locals w.state)
+    over_full w (Go c) s b e = absurd cc
+    over_full w (Leave j c) s b e = subst (λ i. EndsFull (see (Leave i (record { operands = c.operands; locals = c.locals; state = w.state }))) w.state) (sym (same_jump j e)) (h.ends c.operands c.locals w.state s b)
       where
         same_jump : (i : Jump) → Some i ≡ Some Full → i ≡ Full
         same_jump i e = cc
@@ -138,12 +138,12 @@ module _ {S : Type 0} (A : Answering S) where
     shown_replays : (N : ℕ) (r : Res V S) (w : World S) → ReplaysAt A status_place N (res_jump r) (λ v n. Done 0 (shown see (res_put v r))) w
     shown_replays N r w = record {
       onward = λ n le. subst (λ s. A.Leads w.state s) (sym (shown_state w r)) (subst (λ s. A.Leads s (status_state (see (seen w r)))) (seen_state w r) (h.leads (seen w r)));
-      stops = λ e n le.
-          let over = over_full w r e in
+      stops = λ e s b n le.
+          let over = over_full w r s b e in
           record {
             result = Leave Full (record w { state = over.state });
             is_done = ap (λ x. Done 0 x) (shown_is w r ∙ ap (placed w) over.is_full);
-            beyond = λ s b. over.beyond s b;
+            beyond = over.beyond;
             full = refl;
           };
       replays = λ n le a t e.

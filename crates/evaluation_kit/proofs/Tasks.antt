@@ -2,9 +2,9 @@
 use Rattle.std.proofs.Common.{◌≡◌, ℕ, List, [], ◌∷◌, Option, Some, None, refl}
 use Rattle.std.specs.List.{AllByRecursion}
 use Rattle.evaluation_kit.specs.declared.jump.Jump.{Jump}
-use Rattle.outcome_kit.specs.Outcome.{Out, Done, bind}
+use Rattle.outcome_kit.specs.Outcome.{Done}
 use Rattle.outcome_kit.specs.Code.{Go, Leave, go_on, stands}
-use Rattle.evaluation_kit.specs.Configurations.{World, Conf, PlainRes, Res, Sem, in_world}
+use Rattle.evaluation_kit.specs.Configurations.{World, PlainRes, Res}
 use Rattle.evaluation_kit.specs.Languages.{Language, func}
 use Rattle.evaluation_kit.specs.Tasks.{Status, Task, Change, Enter, placed, shown, task, tasks}
 use Rattle.evaluation_kit.proofs.Closure.{Run, Place, Closed, res_place, res_put, res_jump}

@@ -36,14 +36,6 @@ module _ {V S : Type 0} where
   abbrev pub on_operands : (List V → Option (List V)) → Plain V S → PlainRes V S
   on_operands f p = operands_or_trap p (f p.operands)
 
-  -- an instruction on operands and the state, which may trap
-  abbrev pub state_or_trap : Plain V S → Option (List V × S) → PlainRes V S
-  state_or_trap p None = Leave Trap p
-  state_or_trap p (Some r) = Go (record p { operands = r.0; state = r.1 })
-
-  abbrev pub on_state : (List V → S → Option (List V × S)) → Plain V S → PlainRes V S
-  on_state f p = state_or_trap p (f p.operands p.state)
-
   -- nop
   abbrev pub nothing : Plain V S → PlainRes V S
   nothing p = Go p

@@ -1,172 +1,170 @@
--- What a core module shows under a fitting script: results of the mapped types, for calls of the script.
-use Rattle.std.proofs.Common.{◌≡◌, ℕ, zero, suc, ◌+◌, ◌-◌, ◌≤◌, List, [], ◌∷◌, ◌++◌, length, take, reverse, map, Some, None, Option, slice_get, refl, sym, ap, ◌∙◌, subst, arith, add-zero, zero-add}
-use Rattle.std.specs.Prelude.{option_map, option_and_then}
+-- Whole runs of a core module and of its lowered module under a script that fits: both leave the same trace and have as
+-- many calls open, within the same turns; and what they show is of the mapped types.
+use Rattle.std.proofs.Common.{◌≡◌, ℕ, zero, suc, ◌+◌, ◌-◌, ◌<◌, ◌^◌, List, [], ◌∷◌, ◌++◌, map, max, Bool, true, false, Some, slice_get, refl, sym, subst, ap, ◌∙◌, arith, inl, add-zero, zero-add, lit≤}
+use Rattle.std.specs.Prelude.{option_and_then}
 use Rattle.std.specs.List.{AllByRecursion, flat_map}
-use Rattle.std.proofs.lemmas.List.{take_all, reverse-reverse, length-reverse}
-use Rattle.wasm_ast.specs.Trace.{Mark, Shows, Grown, Captured}
-use Rattle.wasm_ast.specs.declared.module.code.Body.{Body}
-use Rattle.wasm_ast.specs.declared.module.parts.Module.{Module}
-use Rattle.wasm_ast.specs.declared.module.ty.FuncType.{FuncType}
-use Rattle.wasm_ast.specs.declared.module.ty.Ty.{Ty}
-use Rattle.wasm_ast.specs.declared.module.ty.Ty.TheVariants as types
-use Rattle.wasm_ast.specs.declared.script.event.Event.{Event}
-use Rattle.wasm_ast.specs.declared.script.event.Event.TheVariants.{Started, Failed, Returned, Trapped, Full}
-use Rattle.wasm_ast.specs.declared.script.event.Event.TheVariants as event
-use Rattle.wasm_ast.specs.declared.script.items.Item.{Item}
-use Rattle.wasm_ast.specs.declared.script.items.Item.TheVariants.{Call}
-use Rattle.wasm_ast.specs.declared.script.items.Script.{Script}
-use Rattle.wasm_ast.specs.declared.script.value.Value.{Value}
-use Rattle.wasm_ast.specs.declared.script.value.Value.TheVariants as values
-use Rattle.outcome_kit.specs.Outcome.{Out, Done, Halt, bind, after, place_of}
-use Rattle.outcome_kit.specs.Code.{Go, Leave}
+use Rattle.host_kit.specs.Scripts.{regrow}
+use Rattle.host_kit.specs.Trace.{Mark, Shows, Grown, Captured}
+use Rattle.host_kit.specs.declared.event.Event.{Event}
+use Rattle.host_kit.specs.declared.event.Event.TheVariants as events
+use Rattle.host_kit.specs.declared.script.Item.{Item}
+use Rattle.host_kit.specs.declared.script.Script.{Script}
+use Rattle.host_kit.specs.declared.value.Value.TheVariants as values
+use Rattle.wasm_ast.specs.declared.module.code.Instr.{Instr}
+use Rattle.outcome_kit.specs.Outcome.{Out, after, turn, place_of}
+use Rattle.outcome_kit.specs.Code.{stands}
 use Rattle.outcome_kit.proofs.Outcomes.{place_of-after}
-use Rattle.meaning_new.specs.Configurations.{State, Conf, Trap, Res, nothing_yet, tell, opened}
-use Rattle.meaning_new.specs.Fitting.{HaveTypes, FitsItem, FitsCall, Fits}
-use Rattle.meaning_new.specs.Functions.{func_at, type_at, entered, returned, enter, call}
-use Rattle.meaning_new.specs.Instructions.{exec_code}
-use Rattle.meaning_new.specs.Modules.{exported, invoke, answered, item, items, instantiate, trace, with_args}
-use Rattle.meaning_new.specs.Values.{default}
-use Rattle.meaning_core1.specs.Fitting.{HaveTypes1}
-use Rattle.lower_tool.specs.CoreTyping.{TypedCode}
-use Rattle.lower_tool.specs.Constants.{ConstantFits}
-use Rattle.lower_tool.specs.Mapping.{flattened}
-use Rattle.lower_tool.specs.Unmapping.{exported_type, item_type, called_type, results_of, grouped, unmap_event, FitsEvent}
-use Rattle.lower_tool.proofs.Soundness.{AreI32, Sound, sound_code, defaults_typed, types_append, types_length, types_reverse}
+use Rattle.evaluation_kit.specs.Configurations.{World}
+use Rattle.evaluation_kit.specs.Languages.{func}
+use Rattle.evaluation_kit.specs.Tasks.{Status, tasks}
+use Rattle.meaning_new.specs.Fits.{ItemFits}
+use Rattle.meaning_new.specs.Instances.{new_state}
+use Rattle.meaning_new.specs.Language.{language}
+use Rattle.meaning_new.specs.Runs.{item_tasks, end_within, trace, depth}
+use Rattle.meaning_new.specs.Store.{State, tell}
+use Rattle.meaning_core1.specs.Instances.{new_state1}
+use Rattle.meaning_core1.specs.Language.{language1}
+use Rattle.meaning_core1.specs.Runs.{items1, end1, trace1, depth1}
+use Rattle.meaning_core1.specs.Store.{State1, show}
+use Rattle.lower_tool.specs.Core.{core_type}
+use Rattle.lower_tool.specs.Lowered.{lowered_instruction}
+use Rattle.lower_tool.specs.Mapping.{map_item, map_script}
+use Rattle.lower_tool.specs.Marks.{marks_of}
+use Rattle.lower_tool.specs.MappedEvents.{FitsEvent}
+use Rattle.lower_tool.specs.Unmapping.{item_type, called_type, exported_type, unmap_event, unmap_return}
+use Rattle.lower_tool.proofs.CoreCode.{Makes}
+use Rattle.lower_tool.proofs.CoreItems.{ComputesAll, only, input, output, IsCall, is_call, finds_function, source_after, target_after, source_item, target_item}
 
 next_place : (i j : ℕ) → i + suc j ≡ i + 1 + j
 next_place i j = omega arith
 
--- a function of which soundness speaks
-pub record SoundFunc (type : FuncType) (body : Body) : Type 0 where
-  pub one : length type.results ≤ 1
-  pub results : AreI32 type.results
-  pub locals : AreI32 body.locals
-  pub typed : TypedCode (record { locals = type.params ++ body.locals }) body.code [] type.results
-  pub constants : AllByRecursion ConstantFits body.code
-
--- each function of the module is one
-pub record SoundModule (m : Module) : Type 0 where
-  pub each : (x : ℕ) (type : FuncType) (body : Body) → type_at m x ≡ Some type → slice_get m.codes x ≡ Some body → SoundFunc type body
-
--- grouping words that have the types changes nothing
-grouped_typed : (vs : List Value) (ts : List Ty) → HaveTypes vs ts → grouped ts vs ≡ vs
-grouped_typed [] [] h = refl
-grouped_typed [] (t ∷ ts) h = absurd h
-grouped_typed (v ∷ vs) [] h = absurd h
-grouped_typed (v ∷ vs) (t ∷ ts) h = ap (λ ws. v ∷ ws) (grouped_typed vs ts h.1)
-
--- a single result is its own flattening
-first_result : (vs : List Value) (ts : List Ty) → length ts ≤ 1 → HaveTypes vs ts → HaveTypes1 vs (take 1 (flat_map flattened ts))
-first_result [] [] le h = tt
-first_result (v ∷ vs) [] le h = absurd h
-first_result [] (t ∷ ts) le h = absurd h
-first_result (values.I32 i ∷ []) (types.I32 ∷ []) le h = (h.0, tt)
-first_result (values.I32 i ∷ []) (_ ∷ []) le h = absurd h.0
-first_result (v ∷ (w ∷ vs)) (t ∷ []) le h = absurd h.1
-first_result (v ∷ vs) (t ∷ (u ∷ ts)) le h = let no : ⊥ = omega arith in absurd no
-
-module _ (m : Module) (s : Script) where
-  -- an event that a lowered module may show and that unmapping leaves as it is
+module _ (name : List ℕ) (code : List Instr) (s : Script) where
+  -- an event that the lowered module may show and that unmapping leaves as it is
   pub record Fit (e : Event) : Type 0 where
-    pub fits : FitsEvent m s e
-    pub same : unmap_event m s e ≡ e
+    pub fits : FitsEvent (input name code) s e
+    pub same : unmap_event (input name code) s e ≡ e
 
-  -- each event of a trace is one
+  -- each mark of a trace is such an event
   abbrev pub FitMarks : List Mark → Type 0
   FitMarks [] = Unit {0}
   FitMarks (Shows e ∷ marks) = Fit e × FitMarks marks
-  FitMarks (Grown ok sizes ∷ marks) = FitMarks marks
-  FitMarks (Captured ∷ marks) = FitMarks marks
+  FitMarks (Grown ok sizes ∷ marks) = ⊥
+  FitMarks (Captured ∷ marks) = ⊥
 
-  pub fit_append : (xs ys : List Mark) → FitMarks xs → FitMarks ys → FitMarks (xs ++ ys)
-  fit_append [] ys h k = k
-  fit_append (Shows e ∷ xs) ys h k = (h.0, fit_append xs ys h.1 k)
-  fit_append (Grown ok sizes ∷ xs) ys h k = fit_append xs ys h k
-  fit_append (Captured ∷ xs) ys h k = fit_append xs ys h k
+  fit_more : (marks : List Mark) (e : Event) → FitMarks marks → Fit e → FitMarks (marks ++ Shows e ∷ [])
+  fit_more [] e h f = (f, tt)
+  fit_more (Shows x ∷ marks) e h f = (h.0, fit_more marks e h.1 f)
+  fit_more (Grown ok sizes ∷ marks) e h f = h
+  fit_more (Captured ∷ marks) e h f = h
 
-  tell_fits : (e : Event) (t : State) → Fit e → FitMarks t.trace → FitMarks (tell e t).trace
-  tell_fits e t h k = fit_append t.trace (Shows e ∷ []) k (h, tt)
+  fit_started : Fit events.Started
+  fit_started = record { fits = tt; same = refl }
 
-  -- what an item is answered with, where its call comes to this
-  abbrev AnswerFits : ℕ → Out State Res → Type 0
-  AnswerFits i (Done used r) = FitMarks (answered m i r).trace
-  AnswerFits i (Halt here) = FitMarks here.trace
+  fit_done : Fit events.Done
+  fit_done = record { fits = tt; same = refl }
 
-  answer_after : (i u : ℕ) (o : Out State Res) → AnswerFits i o → AnswerFits i (after u o)
-  answer_after i u (Done v r) h = h
-  answer_after i u (Halt t) h = h
+  -- the results of a call of the script
+  fit_returned : (i r : ℕ) → called_type (input name code) s i ≡ Some core_type → r < 2 ^ 32 → Fit (events.Returned i (values.I32 r ∷ []) [])
+  fit_returned i r called below = record {
+    fits = record {
+      type = core_type;
+      named = called;
+      values = ((below, tt), tt);
+      globals = record { values = inl tt; tag = lit≤ tt };
+    };
+    same = ap (λ type. unmap_return (input name code) type i (r ∷ []) [] 0 (marks_of (input name code) [])) called;
+  }
 
-  module _ (i : ℕ) (type : FuncType) (called : called_type m s i ≡ Some type) where
-    trap_fits : (c : Conf) → FitMarks c.state.trace → AnswerFits i (Done 0 (Leave Trap c))
-    trap_fits c h = tell_fits (Trapped i []) c.state (record { fits = (type, called, tt); same = refl }) h
+  -- two worlds that tell the same, with events that fit
+  pub record Alike (w : World State) (v : World State1) : Type 0 where
+    pub trace : v.state.trace ≡ w.state.trace
+    pub deepest : v.deepest ≡ w.deepest
+    pub fit : FitMarks w.state.trace
 
-    -- the results of a call, which are all its operands
-    results_fit : (c : Conf) (t : State) → length type.results ≤ 1 → HaveTypes c.operands (reverse type.results) → c.state ≡ t → FitMarks t.trace → FitMarks (answered m i (returned type (Go c))).trace
-    results_fit c t one h same k =
-        let typed : HaveTypes (reverse c.operands) type.results = rw reverse-reverse at (types_reverse c.operands (reverse type.results) h) in
-        let count : length c.operands ≤ length type.results = omega (arith, types_length (reverse c.operands) type.results typed, length-reverse c.operands) in
-        let all : take (length type.results) c.operands ≡ c.operands = take_all (length type.results) c.operands count in
-        let kept : FitMarks c.state.trace = subst (λ (u : State). FitMarks u.trace) (sym same) k in
-        subst (λ vs. FitMarks (tell (Returned i (reverse vs) []) c.state).trace) (sym all)
-        (tell_fits (Returned i (reverse c.operands) []) c.state (record {
-          fits = (type, called, first_result (reverse c.operands) type.results one typed, tt);
-          same = ap (λ ts. Returned i (grouped (results_of ts) (reverse c.operands)) []) called ∙ ap (λ vs. Returned i vs []) (grouped_typed (reverse c.operands) type.results typed);
-        }) kept)
+  told_alike : (e : Event) (w : World State) (v : World State1) → Fit e → Alike w v → Alike (record w { state = tell e w.state }) (record v { state = show e v.state })
+  told_alike e w v f a = record {
+    trace = ap (λ marks. marks ++ Shows e ∷ []) a.trace;
+    deepest = a.deepest;
+    fit = fit_more w.state.trace e a.fit f;
+  }
 
-    body_fits : (body : Body) (t : State) (n : ℕ) (o : Out State Res) → SoundFunc type body → Sound (record { locals = type.params ++ body.locals }) type.results t o → FitMarks t.trace → AnswerFits i (bind n o (λ r n'. Done 0 (returned type r)))
-    body_fits body t n (Done u (Go c)) f h k = results_fit c t f.one h.0 h.2 k
-    body_fits body t n (Done u (Leave Trap c)) f h k = trap_fits c (subst (λ (v : State). FitMarks v.trace) (sym h) k)
-    body_fits body t n (Halt here) f h k = subst (λ (v : State). FitMarks v.trace) (sym h) k
+  returned_alike : (i r : ℕ) (w : World State) (v : World State1) → Fit (events.Returned i (values.I32 r ∷ []) []) → Alike w v → Alike (source_after name code i r w) (target_after name code i r v)
+  returned_alike i r w v f a = record {
+    trace = ap (λ marks. marks ++ Shows (events.Returned i (values.I32 r ∷ []) []) ∷ []) a.trace;
+    deepest = ap (λ d. max d 1) a.deepest;
+    fit = fit_more w.state.trace _ a.fit f;
+  }
 
-    enter_fits : (x n : ℕ) (args : List Value) (t : State) (body : Option Body) → SoundModule m → type_at m x ≡ Some type → slice_get m.codes x ≡ body → HaveTypes args type.params → FitMarks t.trace
-        → AnswerFits i (enter (option_map (λ b. record { type = type; body = b }) body) 0 n (with_args args t))
-    enter_fits x n args t None sound typed is h k = trap_fits (with_args args t) k
-    enter_fits x n args t (Some body) sound typed is h k =
-        let f = sound.each x type body typed is in
-        let locals : HaveTypes (reverse (reverse args) ++ map default body.locals) (type.params ++ body.locals) = rw (reverse-reverse args) (types_append args (map default body.locals) type.params body.locals h (defaults_typed body.locals f.locals)) in
-        body_fits body (opened 0 t) n (exec_code body.code 1 n (entered body 0 (with_args args t))) f
-        (sound_code (record { locals = type.params ++ body.locals }) body.code [] type.results f.typed f.constants 1 n (entered body 0 (with_args args t)) tt locals) k
+  -- what two runs leave behind is alike
+  abbrev AlikeEnds : Out (World State) (Status (World State)) → Out (World State1) (Status (World State1)) → Type 0
+  AlikeEnds o p = Alike (place_of stands o) (place_of stands p)
 
-    call_fits : (x n : ℕ) (args : List Value) (t : State) → SoundModule m → type_at m x ≡ Some type → HaveTypes args type.params → FitMarks t.trace → AnswerFits i (call m x 0 n (with_args args t))
-    call_fits x zero args t sound typed h k = k
-    call_fits x (suc n) args t sound typed h k =
-        answer_after i 1 (enter (func_at m x) 0 n (with_args args t))
-        (subst (λ found. AnswerFits i (enter (option_and_then (λ ty. option_map (λ b. record { type = ty; body = b }) (slice_get m.codes x)) found) 0 n (with_args args t))) (sym typed)
-        (enter_fits x n args t (slice_get m.codes x) sound typed refl h k))
+  alike_after : (u : ℕ) (o : Out (World State) (Status (World State))) (p : Out (World State1) (Status (World State1))) → AlikeEnds o p → AlikeEnds (after u o) (after u p)
+  alike_after u o p a =
+      subst (λ w. Alike w (place_of stands (after u p))) (sym (place_of-after stands u o))
+      (subst (λ v. Alike (place_of stands o) v) (sym (place_of-after stands u p)) a)
 
-  -- a run leaves fitting marks
-  abbrev OutFits : Out State State → Type 0
-  OutFits o = FitMarks (place_of (λ t. t) o).trace
+  -- a turn, and then runs that are alike
+  alike_turn : (n : ℕ) (w : World State) (v : World State1) (f : ℕ → Out (World State) (Status (World State))) (g : ℕ → Out (World State1) (Status (World State1))) → Alike w v → ((k : ℕ) → AlikeEnds (f k) (g k)) → AlikeEnds (turn n w f) (turn n v g)
+  alike_turn zero w v f g a h = a
+  alike_turn (suc k) w v f g a h = alike_after 1 (f k) (g k) (h k)
 
-  answer_bind : (i n : ℕ) (o : Out State Res) → AnswerFits i o → OutFits (bind n o (λ r n'. Done 0 (answered m i r)))
-  answer_bind i n (Done u r) h = h
-  answer_bind i n (Halt t) h = h
+  -- the items from a place of the script on
+  abbrev Stand : ℕ → List Item → Type 0
+  Stand i items = (j : ℕ) → slice_get s.items (i + j) ≡ slice_get items j
 
-  item_called : (i : ℕ) (name : List ℕ) (args : List Value) (f : FitsCall m name args) → slice_get s.items i ≡ Some (Call name args) → called_type m s i ≡ Some f.type
-  item_called i name args f is = ap (option_and_then (item_type m)) is ∙ ap (option_and_then (exported_type m)) f.exported ∙ f.typed
+  stand_next : (i : ℕ) (item : Item) (items : List Item) → Stand i (item ∷ items) → Stand (i + 1) items
+  stand_next i item items h = λ j. ap (slice_get s.items) (sym (next_place i j)) ∙ h (suc j)
 
-  item_fits : (i : ℕ) (it : Item) (n : ℕ) (t : State) → SoundModule m → FitsItem m it → slice_get s.items i ≡ Some it → FitMarks t.trace → OutFits (item m i it n t)
-  item_fits i (Call name args) n t sound f is k =
-      answer_bind i n (invoke m (exported m name) args n t)
-      (subst (λ desc. AnswerFits i (invoke m desc args n t)) (sym f.exported)
-      (call_fits i f.type (item_called i name args f is) f.func n args t sound f.typed f.params k))
+  called_core : (i : ℕ) (item : Item) (items : List Item) → Stand i (item ∷ items) → IsCall name item → called_type (input name code) s i ≡ Some core_type
+  called_core i item items h c =
+      let there : slice_get s.items i ≡ Some item = ap (slice_get s.items) (sym (add-zero i)) ∙ h 0 in
+      ap (option_and_then (item_type (input name code))) there
+      ∙ ap (item_type (input name code)) c.is
+      ∙ ap (option_and_then (exported_type (input name code))) (finds_function name code c.called c.finds)
 
-  out_bind : (n : ℕ) (o : Out State State) (next : State → ℕ → Out State State) → OutFits o → ((t : State) (n' : ℕ) → FitMarks t.trace → OutFits (next t n')) → OutFits (bind n o next)
-  out_bind n (Done u t) next h e = subst (λ (v : State). FitMarks v.trace) (sym (place_of-after (λ t. t) u (next t (n - u)))) (e t (n - u) h)
-  out_bind n (Halt t) next h e = h
+  -- an item that is a call, and then items that are alike
+  item_alike : ComputesAll code → (item : Item) (items : List Item) (i n : ℕ) (w : World State) (v : World State1) → Stand i (item ∷ items) → Alike w v → IsCall name item
+      → ((k : ℕ) (w' : World State) (v' : World State1) → Alike w' v' → AlikeEnds (tasks (func (language (input name code))) (item_tasks (input name code) (i + 1) items) k w') (tasks (func (language1 (output name code))) (items1 (output name code) (i + 1) (map map_item items)) k v'))
+      → AlikeEnds (tasks (func (language (input name code))) (item_tasks (input name code) i (item ∷ items)) n w) (tasks (func (language1 (output name code))) (items1 (output name code) i (map map_item (item ∷ items))) n v)
+  item_alike all item items i n w v stand a c next =
+      let run = all c.argument c.fits in
+      let r = only run.results run.many run.below in
+      let makes = subst (λ rs. Makes code (flat_map lowered_instruction code) c.argument [] rs) r.1 run.makes in
+      let fit = fit_returned i r.0 (called_core i item items stand c) r.2 in
+      let f : ℕ → Out (World State) (Status (World State)) = λ k. tasks (func (language (input name code))) (item_tasks (input name code) (i + 1) items) k (source_after name code i r.0 w) in
+      let g : ℕ → Out (World State1) (Status (World State1)) = λ k. tasks (func (language1 (output name code))) (items1 (output name code) (i + 1) (map map_item items)) k (target_after name code i r.0 v) in
+      subst (λ o. AlikeEnds o (tasks (func (language1 (output name code))) (items1 (output name code) i (map map_item (item ∷ items))) n v)) (sym (source_item name code i r.0 item c makes items n w))
+      (subst (λ p. AlikeEnds (turn n w f) p) (sym (target_item name code i r.0 item c makes items n v))
+      (alike_turn n w v f g a (λ k. next k _ _ (returned_alike i r.0 w v fit a))))
 
-  items_fit : (its : List Item) (i n : ℕ) (t : State) → SoundModule m → AllByRecursion (FitsItem m) its → ((k : ℕ) → slice_get its k ≡ slice_get s.items (i + k)) → FitMarks t.trace → OutFits (items m i its n t)
-  items_fit [] i n t sound fits places k = k
-  items_fit (it ∷ its) i n t sound fits places k =
-      let here : slice_get s.items i ≡ Some it = ap (slice_get s.items) (sym (add-zero i)) ∙ sym (places 0) in
-      out_bind n (item m i it n t) (λ t' n'. items m (i + 1) its n' t') (item_fits i it n t sound fits.0 here k)
-      (λ t' n' k'. items_fit its (i + 1) n' t' sound fits.1 (λ j. places (suc j) ∙ ap (slice_get s.items) (next_place i j)) k')
+  items_alike : ComputesAll code → (items : List Item) (i n : ℕ) (w : World State) (v : World State1) → AllByRecursion (ItemFits (input name code)) items → Stand i items → Alike w v
+      → AlikeEnds (tasks (func (language (input name code))) (item_tasks (input name code) i items) n w) (tasks (func (language1 (output name code))) (items1 (output name code) i (map map_item items)) n v)
+  items_alike all [] i n w v fits stand a = told_alike events.Done w v fit_done a
+  items_alike all (item ∷ items) i n w v fits stand a =
+      item_alike all item items i n w v stand a (is_call name code item fits.0)
+      (λ k w' v' a'. items_alike all items (i + 1) k w' v' fits.1 (stand_next i item items stand) a')
 
-  pub trace_fits : (n : ℕ) → SoundModule m → Fits m s → FitMarks (trace m s n)
+  -- whole runs, whatever the module of 3.0 is answered to growths
+  ends_alike : ComputesAll code → AllByRecursion (ItemFits (input name code)) s.items → (grows : List Bool) (n : ℕ) → Alike (end_within (λ sizes. true) (λ k. true) (input name code) (regrow grows s) n) (end1 (output name code) (map_script (input name code) s) n)
+  ends_alike all fits grows n =
+      let w : World State = record { state = tell events.Started (new_state (λ sizes. true) (λ k. true) false (input name code) (regrow grows s)); deepest = 0 } in
+      let v : World State1 = record { state = show events.Started (new_state1 (output name code) (map_script (input name code) s)); deepest = 0 } in
+      let stand : Stand 0 s.items = λ j. ap (slice_get s.items) (zero-add j) in
+      let a : Alike w v = record { trace = refl; deepest = refl; fit = (fit_started, tt) } in
+      let o : ℕ → Out (World State) (Status (World State)) = λ k. tasks (func (language (input name code))) (item_tasks (input name code) 0 s.items) k w in
+      let p : ℕ → Out (World State1) (Status (World State1)) = λ k. tasks (func (language1 (output name code))) (items1 (output name code) 0 (map map_item s.items)) k v in
+      alike_after 0 (after 0 (o (n - 0 - 0))) (after 0 (p (n - 0 - 0)))
+      (alike_after 0 (o (n - 0 - 0)) (p (n - 0 - 0)) (items_alike all s.items 0 (n - 0 - 0) w v fits stand a))
+
+  pub same_trace : ComputesAll code → AllByRecursion (ItemFits (input name code)) s.items → (grows : List Bool) (n : ℕ) → trace1 (output name code) (map_script (input name code) s) n ≡ trace (input name code) (regrow grows s) n
+  unfolding trace trace1
+  same_trace all fits grows n = (ends_alike all fits grows n).trace
+
+  pub same_depth : ComputesAll code → AllByRecursion (ItemFits (input name code)) s.items → (grows : List Bool) (n : ℕ) → depth1 (output name code) (map_script (input name code) s) n ≡ depth (input name code) (regrow grows s) n
+  unfolding depth depth1
+  same_depth all fits grows n = (ends_alike all fits grows n).deepest
+
+  pub trace_fits : ComputesAll code → AllByRecursion (ItemFits (input name code)) s.items → (n : ℕ) → FitMarks (trace (input name code) s n)
   unfolding trace
-  trace_fits n sound fits =
-      out_bind n (instantiate m n nothing_yet) (λ t n'. bind n' (items m 0 s.items n' t) (λ t' n''. Done 0 (tell event.Done t')))
-      (record { fits = tt; same = refl }, tt)
-      (λ t n' k. out_bind n' (items m 0 s.items n' t) (λ t' n''. Done 0 (tell event.Done t'))
-      (items_fit s.items 0 n' t sound fits.items (λ j. ap (slice_get s.items) (sym (zero-add j))) k)
-      (λ t' n'' k'. tell_fits event.Done t' (record { fits = tt; same = refl }) k'))
+  trace_fits all fits n = (ends_alike all fits s.grows n).fit

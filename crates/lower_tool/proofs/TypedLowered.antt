@@ -1,6 +1,6 @@
 -- The lowered module is typed by the rules of 1.0.
 use Rattle.std.proofs.Common.{◌≡◌, ℕ, zero, suc, List, [], ◌∷◌, ◌++◌, length, map, Some, slice_get, refl, sym, ap, ◌∙◌, subst, append_assoc, arith, lit<, lit≤}
-use Rattle.std.specs.Prelude.{◌≢◌, AllPairs, option_and_then}
+use Rattle.std.specs.Prelude.{◌≢◌, AllPairs}
 use Rattle.std.specs.List.{AllByRecursion, flat_map}
 use Rattle.std.proofs.lemmas.Grind.{flat_map-append}
 use Rattle.std.proofs.lemmas.List.{append-nil}
@@ -14,7 +14,6 @@ use Rattle.wasm_ast.specs.declared.module.code.Instr.{Instr}
 use Rattle.wasm_ast.specs.declared.module.op.Op.TheVariants as source_op
 use Rattle.wasm_ast.specs.declared.module.code.Body.{Body}
 use Rattle.wasm_ast.specs.declared.module.parts.Module.{Module}
-use Rattle.wasm_ast.specs.declared.module.ty.FuncType.{FuncType}
 use Rattle.wasm_ast.specs.declared.module.ty.Ty.{Ty}
 use Rattle.wasm_ast.specs.declared.module.ty.Ty.TheVariants as types
 use Rattle.core1_ast.specs.declared.module.code.Instr1.{Instr1}
@@ -27,13 +26,12 @@ use Rattle.lower_tool.specs.Core.{IsCore, core_type}
 use Rattle.lower_tool.specs.CoreTyping as new
 use Rattle.lower_tool.specs.Constants.{ConstantFits, HasFittingConstants}
 use Rattle.lower_tool.specs.Lowered.{lowered, lowered_instruction, lowered_pure, lowered_type, lowered_body, lowered_export, shifts_by}
-use Rattle.lower_tool.specs.Mapping.{flattened}
+use Rattle.lower_tool.specs.Flattening.{flattened, flat}
 use Rattle.lower_tool.specs.Room.{HasRoom}
-use Rattle.lower_tool.proofs.Soundness.{AreI32}
-use Rattle.lower_tool.proofs.Shown.{SoundFunc, SoundModule}
 
-abbrev flat : List Ty → List Ty1
-flat ts = flat_map flattened ts
+-- all the types are i32
+abbrev AreI32 : List Ty → Type 0
+AreI32 ts = AllByRecursion (λ t. t ≡ types.I32) ts
 
 module _ (c : old.Context) where
   -- one instruction over operands that it leaves as they are
@@ -134,25 +132,6 @@ typed_lowered m core short =
           (λ i j d before last. let no : ⊥ = omega arith in absurd no);
       short = short;
     }
-
--- what is known of the only function
-only_function : (funcs : List FuncType) (indices : List ℕ) (codes : List Body) (b body : Body) (type : FuncType) (x : ℕ) → funcs ≡ core_type ∷ [] → indices ≡ 0 ∷ [] → codes ≡ b ∷ [] → option_and_then (slice_get funcs) (slice_get indices x) ≡ Some type → slice_get codes x ≡ Some body → (type ≡ core_type) × (body ≡ b)
-only_function funcs indices codes b body type zero e f g h k =
-    let found : option_and_then (slice_get (core_type ∷ [])) (slice_get (0 ∷ []) 0) ≡ Some type = ap (λ ts. option_and_then (slice_get ts) (slice_get (0 ∷ []) 0)) (sym e) ∙ ap (λ is. option_and_then (slice_get funcs) (slice_get is 0)) (sym f) ∙ h in
-    let had : slice_get (b ∷ []) 0 ≡ Some body = ap (λ bs. slice_get bs 0) (sym g) ∙ k in
-    (cc, cc)
-only_function funcs indices codes b body type (suc x) e f g h k =
-    let had : slice_get (b ∷ []) (suc x) ≡ Some body = ap (λ bs. slice_get bs (suc x)) (sym g) ∙ k in
-    absurd cc
-
--- soundness speaks of the functions of a core module
-pub sound_core : (m : Module) (core : IsCore m) → AllByRecursion ConstantFits core.code → SoundModule m
-sound_core m core constants = record {
-  each = λ x type body typed has.
-      let only = only_function m.types m.funcs m.codes (record { locals = []; code = core.code }) body type x core.types core.funcs core.bodies typed has in
-      subst (λ t. SoundFunc t body) (sym only.0) (subst (λ b. SoundFunc core_type b) (sym only.1)
-      (record { one = omega arith; results = (refl, tt); locals = tt; typed = core.typed; constants = constants }));
-}
 
 -- the lists of a core module's lowered module are short, where its name and its code have room
 pub short_lowered : (m : Module) → IsCore m → HasRoom (lowered m) → old.IsShortModule (lowered m)

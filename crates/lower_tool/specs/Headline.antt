@@ -1,30 +1,35 @@
 -- The headline: a module and its lowered module show the same events, in both directions, with few more live frames.
-use Rattle.std.specs.Prelude.{◌≡◌, ℕ, ◌+◌, ◌*◌, ◌<◌, ◌≤◌, ◌⊎◌, nat_lt, nat_le, sum, true, Bool, List, [], ◌∷◌, ◌++◌}
-use Rattle.wasm_ast.specs.Script.{regrow}
-use Rattle.wasm_ast.specs.Trace.{Mark, Seen, Told, seen, events, answers, captured, cut, Begins}
+use Rattle.std.specs.Prelude.{◌≡◌, ℕ, ◌+◌, ◌*◌, ◌<◌, ◌≤◌, ◌⊎◌, nat_lt, nat_le, cond, sum, true, Bool, List, [], ◌∷◌, ◌++◌, take, drop}
+use Rattle.std.specs.List.{sum_by}
+use Rattle.host_kit.specs.Scripts.{regrow}
+use Rattle.host_kit.specs.Trace.{Mark, Seen, Told, seen, events, answers, captured, cut, Begins}
+use Rattle.host_kit.specs.declared.event.Event.{Event}
+use Rattle.host_kit.specs.declared.event.Event.TheVariants.{Failed, Full}
+use Rattle.host_kit.specs.declared.script.Script.{Script}
+use Rattle.wasm_ast.specs.Region.{moves_tables, fixed_pages, pages_for_entries}
+use Rattle.wasm_ast.specs.Spaces.{memory_count}
 use Rattle.wasm_ast.specs.declared.module.parts.Module.{Module}
-use Rattle.wasm_ast.specs.declared.script.event.Event.{Event}
-use Rattle.wasm_ast.specs.declared.script.event.Event.TheVariants.{Failed, Full}
-use Rattle.wasm_ast.specs.declared.script.items.Script.{Script}
-use Rattle.meaning_new.specs.Fitting.{Fits}
-use Rattle.meaning_new.specs.Modules.{trace, depth}
-use Rattle.meaning_core1.specs.Fitting.{Fits1}
-use Rattle.meaning_core1.specs.Modules.{trace1, depth1}
+use Rattle.meaning_new.specs.Fits.{ScriptFits}
+use Rattle.meaning_new.specs.Runs.{trace, depth}
+use Rattle.meaning_core1.specs.Fits.{ScriptFits1}
+use Rattle.meaning_core1.specs.Runs.{trace1, depth1}
 use Rattle.core1_ast.specs.declared.module.parts.Module1.{Module1}
 use Rattle.lower_tool.specs.Mapping.{map_script}
-use Rattle.lower_tool.specs.Unmapping.{unmap, FitEvents}
+use Rattle.lower_tool.specs.MappedEvents.{FitEvents}
+use Rattle.lower_tool.specs.Unmapping.{unmap}
 
--- the pages that a lowered module needs beside those of the memories: none, since no module of today has a region
-abbrev pub fixed : Module → ℕ
-fixed m = 0
-
--- the pages of all memories, by their sizes; no module of today has a table
+-- the pages of the memories and of the tables that are moved into memory, by the sizes of all memories and tables
 abbrev pub pages : Module → List ℕ → ℕ
-pages m sizes = sum sizes
+pages m sizes =
+    sum (take (memory_count m) sizes) + cond (moves_tables m) (sum_by pages_for_entries (drop (memory_count m) sizes)) 0
+
+-- the sizes that a lowered module has room for, beside the pages that it needs for itself
+abbrev pub has_pages : Module → List ℕ → Bool
+has_pages m sizes = nat_le (fixed_pages m + pages m sizes) 65536
 
 -- the trace before the first successful growth past 65,536 pages and before the first capture for which the store has no room
 abbrev pub safe : Module → ℕ → List Mark → List Mark
-safe m captures marks = cut (λ sizes. nat_le (fixed m + pages m sizes) 65536) (λ k. nat_lt k captures) 0 marks
+safe m captures marks = cut (has_pages m) (λ k. nat_lt k captures) 0 marks
 
 -- the trace before its capture number captures + 1
 abbrev pub before_full : ℕ → List Mark → List Mark
@@ -64,7 +69,7 @@ pub record InToOut (m : Module) (m1 : Module1) (captures : ℕ) (s : Script) (n 
 
 -- what holds for one script
 pub record SameUnder (a b : ℕ) (m : Module) (m1 : Module1) (captures : ℕ) (s : Script) : Type 0 where
-  pub fits : Fits1 m1 (map_script m s)
+  pub fits : ScriptFits1 m1 (map_script m s)
   pub mapped_events : (n : ℕ) → FitEvents m s (events (trace1 m1 (map_script m s) n))
   pub out_to_in : (n : ℕ) → OutToIn a b m m1 captures s n
   pub in_to_out : (n : ℕ) → InToOut m m1 captures s n
@@ -74,4 +79,4 @@ pub record SameUnder (a b : ℕ) (m : Module) (m1 : Module1) (captures : ℕ) (s
 -- Both modules show the same under every fitting script, in both directions, and where the input has d live frames
 -- the output has at most a * d + b.
 pub record Same (a b : ℕ) (m : Module) (m1 : Module1) (captures : ℕ) : Type 0 where
-  pub under : (s : Script) → Fits m s → SameUnder a b m m1 captures s
+  pub under : (s : Script) → ScriptFits m s → SameUnder a b m m1 captures s

@@ -5,11 +5,14 @@ pub mod Core
 pub mod CoreFiles
 pub mod CoreTyping
 pub mod Distinct
+pub mod Flattening
 pub mod Headline
 pub mod Lowered
 pub mod Lowering
+pub mod MappedEvents
 pub mod MappedInterface
 pub mod Mapping
+pub mod Marks
 pub mod Products
 pub mod Room
 pub mod Statuses

@@ -26,7 +26,7 @@ use Rattle.core1_ast.specs.declared.module.parts.ExportDesc1.{ExportDesc1}
 use Rattle.core1_ast.specs.declared.module.parts.ExportDesc1.TheVariants as target_desc
 use Rattle.core1_ast.specs.declared.module.parts.Module1.{Module1}
 use Rattle.core1_ast.specs.declared.module.ty.FuncType1.{FuncType1}
-use Rattle.lower_tool.specs.Mapping.{flattened}
+use Rattle.lower_tool.specs.Flattening.{flattened}
 
 -- An instruction that no core module has is not built yet. It traps, here and there
 abbrev pub not_built : List Instr1

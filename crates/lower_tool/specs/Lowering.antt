@@ -3,7 +3,6 @@ use Rattle.std.specs.Prelude.{ℕ, List}
 use Rattle.wasm_ast.specs.declared.module.parts.Module.{Module}
 use Rattle.core1_ast.specs.Typing.{Typed1}
 use Rattle.core1_ast.specs.declared.module.parts.Module1.{Module1}
-use Rattle.meaning_core1.specs.Covered.{IsCovered}
 use Rattle.lower_tool.specs.CoreFiles.{SpellsCore}
 use Rattle.core1_bytes.specs.Spells.{Spells1}
 use Rattle.lower_tool.specs.Headline.{Same}
@@ -14,11 +13,11 @@ abbrev pub default_captures : ℕ
 default_captures = 4096
 
 -- The bytes are those of a lowering of the module, for a store of so many captured exceptions: they spell a module that
--- the rules of 1.0 type, that the meaning of 1.0 covers, that is linked as the first is, and that shows what the first
--- shows, with at most 4 d + 16 live frames.
+-- the rules of 1.0 type, that is linked as the first is, and that shows what the first shows, with at most 4 d + 16 live
+-- frames.
 abbrev pub IsWrittenFor : ℕ → Module → List ℕ → Type 0
 IsWrittenFor captures m written =
-    (m1 : Module1) × Spells1 written m1 × Typed1 m1 × IsCovered m1 × SameInterface m m1 × Same 4 16 m m1 captures
+    (m1 : Module1) × Spells1 written m1 × Typed1 m1 × SameInterface m m1 × Same 4 16 m m1 captures
 
 -- the second are the bytes of a lowering of the core module that the first spell
 abbrev pub Lowers : ℕ → List ℕ → List ℕ → Type 0

@@ -1,7 +1,5 @@
 -- The interface of a lowered module: what it imports and exports, by what its input does. This project's own mapping.
-use Rattle.std.specs.Prelude.{◌≡◌, ℕ, zero, suc, ◌+◌, ◌-◌, max, true, List, [], ◌∷◌, ◌++◌, codes, map, filter_map, length, take, slice_get, Option, Some, None, option_map, option_and_then}
-use Rattle.std.specs.Fmt.{decimal}
-use Rattle.std.specs.List.{flat_map}
+use Rattle.std.specs.Prelude.{◌≡◌, ℕ, zero, suc, ◌+◌, true, List, [], ◌∷◌, ◌++◌, codes, filter_map, take, slice_get, Option, Some, None, option_map, option_and_then}
 use Rattle.wasm_ast.specs.declared.module.parts.Module.{Module}
 use Rattle.wasm_ast.specs.declared.module.ty.FuncType.{FuncType}
 use Rattle.wasm_ast.specs.declared.module.ty.Limits.{Limits}
@@ -12,11 +10,12 @@ use Rattle.core1_ast.specs.declared.module.ty.Ty1.{Ty1}
 use Rattle.core1_ast.specs.declared.module.ty.Ty1.TheVariants.{I32, I64}
 use Rattle.meaning_new.specs.Interface.{ExternType, Imported, Exported, Interface, interface, func, table, memory, global, tag}
 use Rattle.meaning_core1.specs.Interface as old
-use Rattle.lower_tool.specs.Mapping.{flattened}
+use Rattle.lower_tool.specs.Flattening.{flattened, flat}
+use Rattle.lower_tool.specs.Marks.{exception_count, payload_count, result_count, payload_mark, result_mark}
 
 -- the type of the lowered function: the parameters flattened, and the first flattened result alone
 abbrev pub mapped_func : FuncType → FuncType1
-mapped_func t = record { params = flat_map flattened t.params; results = take 1 (flat_map flattened t.results) }
+mapped_func t = record { params = flat t.params; results = take 1 (flat t.results) }
 
 abbrev pub mapped_limits : Limits → Limits1
 mapped_limits limits = record { min = limits.min; max = limits.max }
@@ -37,41 +36,22 @@ mapped_import i = option_map (λ type. record { from = i.from; name = i.name; ty
 abbrev pub mapped_export : Exported → Option old.Exported1
 mapped_export e = option_map (λ type. record { name = e.name; type = Some type }) (option_and_then mapped_extern e.type)
 
--- a mark: a mutable global by which the lowered module shows what 1.0 cannot return
+-- a mark is a mutable global
 abbrev pub mark : List ℕ → Ty1 → old.Exported1
 mark name t = record { name = name; type = Some (old.global t true) }
 
--- so many marks of i64, numbered from this number on
-abbrev pub word_marks : List ℕ → ℕ → ℕ → List old.Exported1
-word_marks name first zero = []
-word_marks name first (suc count) = mark (name ++ decimal first) I64 ∷ word_marks name (first + 1) count
-
-abbrev pub greatest : List ℕ → ℕ
-greatest [] = 0
-greatest (n ∷ ns) = max n (greatest ns)
-
--- the words of a tag's payload
-abbrev pub payload_words : Option FuncType → ℕ
-payload_words None = 0
-payload_words (Some t) = length (flat_map flattened t.params)
-
--- the flattened results of a linked function beyond the first
-abbrev pub further_results : Option ExternType → ℕ
-further_results (Some (func t)) = length (flat_map flattened t.results) - 1
-further_results _ = 0
-
--- which exception is not caught, where there is a tag
-abbrev pub tag_mark : List (Option FuncType) → List old.Exported1
-tag_mark [] = []
-tag_mark (t ∷ tags) = mark (codes "lower.exn") I32 ∷ []
+-- so many marks, numbered from this number on
+abbrev pub numbered_marks : (ℕ → List ℕ) → Ty1 → ℕ → ℕ → List old.Exported1
+numbered_marks name t first zero = []
+numbered_marks name t first (suc count) = mark (name first) t ∷ numbered_marks name t (first + 1) count
 
 -- The marks, in order: of the exception that is not caught, of the words of its payload, and of the results of a linked
 -- function beyond the first. The mark of a full capture store comes with the first module that captures
 abbrev pub marks : Interface → List old.Exported1
 marks i =
-    tag_mark i.tags
-    ++ word_marks (codes "lower.p.") 0 (greatest (map payload_words i.tags))
-    ++ word_marks (codes "lower.r.") 1 (max (greatest (map (λ e. further_results e.type) i.imports)) (greatest (map (λ e. further_results e.type) i.exports)))
+    numbered_marks (λ k. codes "lower.exn") I32 0 (exception_count i.tags)
+    ++ numbered_marks payload_mark I64 0 (payload_count i)
+    ++ numbered_marks result_mark I64 1 (result_count i)
 
 -- imports and exports keep their order; the marks come last
 abbrev pub mapped_interface : Interface → old.Interface1

@@ -1,37 +1,42 @@
 -- How a script for a 3.0 module becomes a script for the lowered module: this project's own mapping.
-use Rattle.std.specs.Prelude.{List, [], ◌∷◌, map}
+use Rattle.std.specs.Prelude.{ℕ, ◌+◌, List, [], ◌∷◌, ◌++◌, map}
 use Rattle.std.specs.List.{flat_map}
+use Rattle.host_kit.specs.declared.script.Act.{Act}
+use Rattle.host_kit.specs.declared.script.Act.TheVariants.{Set}
+use Rattle.host_kit.specs.declared.script.Item.{Item}
+use Rattle.host_kit.specs.declared.script.Item.TheVariants.{Call, Host}
+use Rattle.host_kit.specs.declared.script.Reply.{Reply}
+use Rattle.host_kit.specs.declared.script.Script.{Script}
+use Rattle.host_kit.specs.declared.value.Value.{Value}
+use Rattle.host_kit.specs.declared.value.Value.TheVariants.{I64}
 use Rattle.wasm_ast.specs.declared.module.parts.Module.{Module}
-use Rattle.wasm_ast.specs.declared.module.ty.Ty.{Ty}
-use Rattle.wasm_ast.specs.declared.module.ty.Ty.TheVariants as types
-use Rattle.wasm_ast.specs.declared.script.items.Item.{Item}
-use Rattle.wasm_ast.specs.declared.script.items.Item.TheVariants.{Call}
-use Rattle.wasm_ast.specs.declared.script.items.Script.{Script}
-use Rattle.wasm_ast.specs.declared.script.value.Value.{Value}
-use Rattle.wasm_ast.specs.declared.script.value.Value.TheVariants.{I32}
-use Rattle.core1_ast.specs.declared.module.ty.Ty1.{Ty1}
-use Rattle.core1_ast.specs.declared.module.ty.Ty1.TheVariants as types1
+use Rattle.lower_tool.specs.Flattening.{flatten, word}
+use Rattle.lower_tool.specs.Marks.{result_mark}
 
--- The types of 1.0 that stand for a type, lowest first. A vector is two i64, a reference is an i32, and a number
--- stands for itself
-abbrev pub flattened : Ty → List Ty1
-flattened types.I32 = types1.I32 ∷ []
-flattened types.I64 = types1.I64 ∷ []
-flattened types.F32 = types1.F32 ∷ []
-flattened types.F64 = types1.F64 ∷ []
-flattened types.V128 = types1.I64 ∷ (types1.I64 ∷ [])
-flattened types.Func = types1.I32 ∷ []
-flattened types.Extern = types1.I32 ∷ []
-flattened types.Exn = types1.I32 ∷ []
-
--- the values of 1.0 that stand for a value, lowest first
-abbrev pub flatten : Value → List Value
-flatten (I32 n) = I32 n ∷ []
-
--- a call has its arguments flattened
+-- a call has its arguments flattened; what the host does to the state stays
 abbrev pub map_item : Item → Item
 map_item (Call name arguments) = Call name (flat_map flatten arguments)
+map_item (Host act) = Host act
 
--- the script for the lowered module; the answers to growths stay
+-- the words of results in their marks, from the mark with this number on
+abbrev pub set_results : ℕ → List Value → List Act
+set_results k [] = []
+set_results k (v ∷ more) = Set (result_mark k) (I64 (word v)) ∷ set_results (k + 1) more
+
+-- a reply gives its first flattened value, and sets the marks of the others after all that it does
+abbrev pub reply_with : List Act → List Value → Reply
+reply_with acts [] = record { acts = acts; values = [] }
+reply_with acts (v ∷ further) = record { acts = acts ++ set_results 1 further; values = v ∷ [] }
+
+abbrev pub map_reply : Reply → Reply
+map_reply reply = reply_with reply.acts (flat_map flatten reply.values)
+
+-- The script for the lowered module. The answers to growths stay, and so do the values of the imported globals, each of
+-- which is an i32 or an i64 in the profile
 abbrev pub map_script : Module → Script → Script
-map_script m s = record { grows = s.grows; items = map map_item s.items }
+map_script m s = record {
+  globals = s.globals;
+  replies = map (λ replies. map map_reply replies) s.replies;
+  grows = s.grows;
+  items = map map_item s.items;
+}

@@ -1,102 +1,95 @@
 -- How the events of a lowered module become events of the 3.0 module: this project's own mapping, event by event.
-use Rattle.std.specs.Prelude.{◌≡◌, ℕ, List, [], ◌∷◌, take, slice_get, Option, Some, None, option_and_then}
-use Rattle.std.specs.List.{flat_map}
-use Rattle.wasm_ast.specs.Trace.{Seen, Told, Answered}
+use Rattle.std.specs.Prelude.{ℕ, zero, suc, List, [], ◌∷◌, ◌++◌, map, filter_map, slice_get, Option, Some, None, option_and_then}
+use Rattle.host_kit.specs.Trace.{Seen, Told, Answered}
+use Rattle.host_kit.specs.declared.event.Event.{Event}
+use Rattle.host_kit.specs.declared.event.Event.TheVariants as events
+use Rattle.host_kit.specs.declared.script.Item.{Item}
+use Rattle.host_kit.specs.declared.script.Item.TheVariants.{Call, Host}
+use Rattle.host_kit.specs.declared.script.Script.{Script}
+use Rattle.host_kit.specs.declared.value.Value.{Value}
+use Rattle.host_kit.specs.declared.value.Value.TheVariants as values
+use Rattle.wasm_ast.specs.Spaces.{func_import}
 use Rattle.wasm_ast.specs.declared.module.parts.ExportDesc.{ExportDesc}
 use Rattle.wasm_ast.specs.declared.module.parts.ExportDesc.TheVariants.{Func}
 use Rattle.wasm_ast.specs.declared.module.parts.Module.{Module}
 use Rattle.wasm_ast.specs.declared.module.ty.FuncType.{FuncType}
 use Rattle.wasm_ast.specs.declared.module.ty.Ty.{Ty}
-use Rattle.wasm_ast.specs.declared.script.event.Event.{Event}
-use Rattle.wasm_ast.specs.declared.script.event.Event.TheVariants.{Started, Failed, Returned, Trapped, Done, Full}
-use Rattle.wasm_ast.specs.declared.script.items.Item.{Item}
-use Rattle.wasm_ast.specs.declared.script.items.Item.TheVariants.{Call}
-use Rattle.wasm_ast.specs.declared.script.items.Script.{Script}
-use Rattle.wasm_ast.specs.declared.script.value.Value.{Value}
-use Rattle.wasm_ast.specs.declared.script.value.Value.TheVariants.{I32}
-use Rattle.meaning_new.specs.Functions.{type_at}
-use Rattle.meaning_new.specs.Modules.{exported}
-use Rattle.meaning_core1.specs.Fitting.{HaveTypes1}
-use Rattle.lower_tool.specs.Mapping.{flattened}
+use Rattle.wasm_ast.specs.declared.module.ty.Ty.TheVariants as types
+use Rattle.evaluation_kit.specs.Leaves.{top, below}
+use Rattle.meaning_new.specs.Forms.{type_of_func, type_of_tag}
+use Rattle.meaning_new.specs.Host.{export_of}
+use Rattle.lower_tool.specs.Flattening.{word}
+use Rattle.lower_tool.specs.Marks.{Marks, own_globals, marks_of}
+
+-- the type of the imported function with this number
+abbrev pub imported_type : Module → ℕ → Option FuncType
+imported_type m j = option_and_then (slice_get m.types) (slice_get (filter_map (λ i. func_import i.desc) m.imports) j)
 
 -- the type of what a module exports, where that is a function
 abbrev pub exported_type : Module → ExportDesc → Option FuncType
-exported_type m (Func x) = type_at m x
+exported_type m (Func x) = type_of_func m x
 exported_type m _ = None
 
 -- the type of the function that an item calls
 abbrev pub item_type : Module → Item → Option FuncType
-item_type m (Call name arguments) = option_and_then (exported_type m) (exported m name)
+item_type m (Call name arguments) = option_and_then (exported_type m) (export_of m name)
+item_type m (Host act) = None
 
 -- the type of the function that the item at a place of the script calls
 abbrev pub called_type : Module → Script → ℕ → Option FuncType
 called_type m s i = option_and_then (item_type m) (slice_get s.items i)
 
+abbrev pub params_of : Option FuncType → List Ty
+params_of None = []
+params_of (Some type) = type.params
+
 abbrev pub results_of : Option FuncType → List Ty
 results_of None = []
 results_of (Some type) = type.results
 
--- the types of the exported globals, in export order; core modules have no globals
-abbrev pub exported_globals : Module → List Ty
-exported_globals m = []
+-- the reference that a word stands for: null is 0
+abbrev pub reference : (ℕ → Value) → Value → ℕ → Value
+reference make null zero = null
+reference make null (suc n) = make n
 
--- words grouped into values of these types; what is missing reads as 0, so that the definition is total. Values of
--- other types than i32 are not built yet: each type takes one word
-abbrev pub grouped : List Ty → List Value → List Value
+-- Words grouped into values of these types. A word that is missing reads as 0, an exception does not meet the host, and
+-- floats are outside the profile: so this is total
+abbrev pub grouped : List Ty → List ℕ → List Value
 grouped [] words = []
-grouped (type ∷ more) [] = I32 0 ∷ grouped more []
-grouped (type ∷ more) (word ∷ words) = word ∷ grouped more words
+grouped (types.I64 ∷ more) words = values.I64 (top 0 words) ∷ grouped more (below words)
+grouped (types.V128 ∷ more) words = values.V128 (top 0 words) (top 0 (below words)) ∷ grouped more (below (below words))
+grouped (types.Func ∷ more) words = reference (λ x. values.Func x) values.NullFunc (top 0 words) ∷ grouped more (below words)
+grouped (types.Extern ∷ more) words = reference (λ a. values.Extern a) values.NullExtern (top 0 words) ∷ grouped more (below words)
+grouped (types.Exn ∷ more) words = values.NullExtern ∷ grouped more (below words)
+grouped (_ ∷ more) words = values.I32 (top 0 words) ∷ grouped more (below words)
 
--- results are grouped by the input's types, and only the input's own globals stay
+-- A call that returned: with results, of which those beyond the first stand in marks, or with an exception that was not
+-- caught, whose payload does
+abbrev pub unmap_return : Module → Option FuncType → ℕ → List ℕ → List Value → ℕ → Marks → Event
+unmap_return m type i words own zero marks = events.Returned i (grouped (results_of type) (words ++ marks.further)) own
+unmap_return m type i words own (suc tag) marks = events.Uncaught i tag (grouped (params_of (type_of_tag m tag)) marks.payload) own
+
+-- a trap that stands for a full store of captured exceptions, or for itself
+abbrev pub unmap_trap : ℕ → List Value → ℕ → Event
+unmap_trap i own zero = events.Trapped i own
+unmap_trap i own (suc full) = events.Full
+
+-- arguments and results are grouped by the input's types, and only the input's own globals stay
 abbrev pub unmap_event : Module → Script → Event → Event
-unmap_event m s Started = Started
-unmap_event m s Failed = Failed
-unmap_event m s (Returned i words globals) =
-    Returned i (grouped (results_of (called_type m s i)) words) (grouped (exported_globals m) globals)
-unmap_event m s (Trapped i globals) = Trapped i (grouped (exported_globals m) globals)
-unmap_event m s Done = Done
-unmap_event m s Full = Full
+unmap_event m s (events.HostCall j arguments globals) =
+    events.HostCall j (grouped (params_of (imported_type m j)) (map word arguments)) (own_globals m globals)
+unmap_event m s (events.Returned i results globals) =
+    unmap_return m (called_type m s i) i (map word results) (own_globals m globals) (marks_of m globals).exception (marks_of m globals)
+unmap_event m s (events.Trapped i globals) = unmap_trap i (own_globals m globals) (marks_of m globals).full
+unmap_event m s event = event
 
--- nothing follows a full capture store
+-- nothing follows a full store of captured exceptions
 abbrev pub followed : Event → List Seen → List Seen
-followed Started more = Told Started ∷ more
-followed Failed more = Told Failed ∷ more
-followed (Returned i values globals) more = Told (Returned i values globals) ∷ more
-followed (Trapped i globals) more = Told (Trapped i globals) ∷ more
-followed Done more = Told Done ∷ more
-followed Full more = Told Full ∷ []
+followed events.Full more = Told events.Full ∷ []
+followed event more = Told event ∷ more
 
 -- what the host of the input sees, from what the host of the output sees; answers to growths stay where they are
 abbrev pub unmap : Module → Script → List Seen → List Seen
 unmap m s [] = []
 unmap m s (Answered ok ∷ more) = Answered ok ∷ unmap m s more
 unmap m s (Told event ∷ more) = followed (unmap_event m s event) (unmap m s more)
-
--- a function's results in 1.0: the first flattened one alone
-abbrev pub FirstResult : List Value → FuncType → Type 0
-FirstResult words type = HaveTypes1 words (take 1 (flat_map flattened type.results))
-
--- an event that a lowered module may show: it names an item that is a call, and its values have the mapped types
-abbrev pub FitsEvent : Module → Script → Event → Type 0
-FitsEvent m s Started = Unit {0}
-FitsEvent m s Failed = Unit {0}
-FitsEvent m s (Returned i words globals) =
-    (type : FuncType) × (called_type m s i ≡ Some type) × FirstResult words type × HaveTypes1 globals (flat_map flattened (exported_globals m))
-FitsEvent m s (Trapped i globals) =
-    (type : FuncType) × (called_type m s i ≡ Some type) × HaveTypes1 globals (flat_map flattened (exported_globals m))
-FitsEvent m s Done = Unit {0}
-FitsEvent m s Full = ⊥
-
--- a fact on what follows an event, unless nothing does
-abbrev pub UnlessFull : Event → Type 0 → Type 0
-UnlessFull Started Fact = Fact
-UnlessFull Failed Fact = Fact
-UnlessFull (Returned i values globals) Fact = Fact
-UnlessFull (Trapped i globals) Fact = Fact
-UnlessFull Done Fact = Fact
-UnlessFull Full Fact = Unit {0}
-
--- each event up to the first that unmaps to a full capture store may be shown by a lowered module
-abbrev pub FitEvents : Module → Script → List Event → Type 0
-FitEvents m s [] = Unit {0}
-FitEvents m s (event ∷ more) = FitsEvent m s event × UnlessFull (unmap_event m s event) (FitEvents m s more)

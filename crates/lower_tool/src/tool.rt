@@ -7,7 +7,6 @@ ghost use Rattle.tool_files.specs.Held.{Told, WhereTold};
 ghost use Rattle.core1_ast.specs.Typing.{Typed1};
 ghost use Rattle.core1_ast.specs.declared.module.parts.Module1.{Module1};
 ghost use Rattle.core1_bytes.specs.Spells.{Spells1};
-ghost use Rattle.meaning_core1.specs.Covered.{IsCovered};
 ghost use Rattle.wasm_ast.specs.declared.module.parts.Module.{Module};
 ghost use Rattle.lower_tool.specs.CoreFiles.{SpellsCore};
 ghost use Rattle.lower_tool.specs.Headline.{Same};
@@ -45,9 +44,9 @@ pub fn tool<F: Files, S: Sink>(alloc: Global, words: &Texts, files: &mut F, out:
 
     // The headline: the input is fine, and the output spells a module that the rules of 1.0 type, that has the input's
     // imports and exports and no others, and that shows what the input's module shows, for every fitting script and
-    // number of turns, in at most 4 d + 16 live frames. The output has nothing that our meaning of 1.0 does not cover.
+    // number of turns, in at most 4 d + 16 live frames.
     ensures lowered { result ≡ 0 → IfLower words.now (Lowered (F.holds files.old) (F.holds files.new)
-        (λ bytes written. (m : Module) × SpellsCore bytes m × ((m1 : Module1) × Spells1 written m1 × Typed1 m1 × IsCovered m1 × SameInterface m m1 × Same 4 16 m m1 4096))) }
+        (λ bytes written. (m : Module) × SpellsCore bytes m × ((m1 : Module1) × Spells1 written m1 × Typed1 m1 × SameInterface m m1 × Same 4 16 m m1 4096))) }
     ensures valid { result ≡ 0 → IfCheck words.now (λ version input. WhereTold (F.holds files.old) input (IsValid version)) }
     ensures refused { result ≡ 1 → ByWords words.now (λ command. (text : List ℕ) × WhereTold (F.holds files.old) (input_of command) (λ bytes. IsRefusal command bytes text)
         × Prints (S.written out.old) (S.written out.new) (S.faults out.old) (S.faults out.new) (line (codes "refused: " ++ text))) }

@@ -1,10 +1,10 @@
 -- What instructions of 1.0 and its host do evenly: they tell events alone, touch no answer, and do the same before other
--- answers. And that code never leaves by Full.
-use Rattle.std.proofs.Common.{◌≡◌, ℕ, ◌-◌, Bool, true, false, ◌&&◌, if◌then◌else◌, List, [], ◌∷◌, ◌++◌, map, reverse, ◌⊎◌, inl, inr, Option, Some, None, refl, sym, ap, ◌∙◌, subst, append-nil}
+-- answers. Growths tell of an answer. Nothing tells of captures.
+use Rattle.std.proofs.Common.{◌≡◌, ℕ, Bool, true, false, ◌&&◌, if◌then◌else◌, List, [], ◌∷◌, ◌++◌, map, reverse, ◌⊎◌, inl, Option, Some, None, refl, sym, ap, ◌∙◌, subst, append-nil}
 use Rattle.std.proofs.lemmas.List.{append_cancel_left}
-use Rattle.std.specs.Prelude.{slice_get, set, nat_lt, length, option_map, option_and_then}
+use Rattle.std.specs.Prelude.{slice_get, set}
 use Rattle.std.specs.List.{AllByRecursion}
-use Rattle.host_kit.specs.Trace.{Mark, Shows, Grown, Begins, seen, answers}
+use Rattle.host_kit.specs.Trace.{Mark, Shows, Grown, Captured, Begins, seen, answers}
 use Rattle.host_kit.proofs.Marks.{begins_same, begins_append, begins_trans, begins_answers, answers-shown, answers-grown}
 use Rattle.host_kit.specs.declared.event.Event.{Event}
 use Rattle.host_kit.specs.declared.event.Event.TheVariants as events
@@ -17,23 +17,24 @@ use Rattle.core1_ast.specs.declared.module.parts.ExportDesc1.TheVariants as expo
 use Rattle.core1_ast.specs.declared.module.parts.Module1.{Module1}
 use Rattle.evaluation_kit.specs.declared.jump.Jump.{Jump}
 use Rattle.evaluation_kit.specs.declared.jump.Jump.TheVariants as jumps
-use Rattle.evaluation_kit.specs.declared.jump.Jump.TheVariants.{Full}
 use Rattle.outcome_kit.specs.Code.{Go, Leave}
 use Rattle.outcome_kit.proofs.Growing.{Order}
 use Rattle.evaluation_kit.specs.Configurations.{Plain, PlainRes}
 use Rattle.evaluation_kit.specs.Leaves
 use Rattle.evaluation_kit.specs.Leaves.{operands_or_trap, on_operands, jump_where, top, below, read_range, write_range, with_operands}
 use Rattle.evaluation_kit.proofs.Growing.{state_after, LeadsOn}
-use Rattle.evaluation_kit.proofs.Invariants.{Kept, After, PlainAfter, Keeps}
+use Rattle.evaluation_kit.proofs.Invariants.{Kept, PlainAfter, Keeps}
 use Rattle.evaluation_kit.proofs.Replaying.{Answering, ActReplays, untouched, free_plain, freed_plain, PastPlain}
 use Rattle.meaning_core1.specs.declared.val1.Val1.{Val1}
 use Rattle.meaning_core1.specs.Store.{Store1, State1, Memory1, Effect, Growth1, absent, in_store, show, sizes1, effect_or_trap, by_store, grows1, growth_settled, grow_or_trap, by_growth, host_value, value_from}
-use Rattle.meaning_core1.specs.Accesses.{put_bytes, put_global}
 use Rattle.meaning_core1.specs.Hosting.{export1, exported_values, set1, shown_bytes, peek_memory, peek1, poked, poke_memory, poke1, act1, acts1, answer1, call_host}
 
--- the mark does not show a full store of captures
-abbrev pub NotFull : Mark → Type 0
-NotFull m = m ≡ Shows events.Full → ⊥
+-- the mark is no capture, and does not show that a store of captures is full
+abbrev pub NoCapture : Mark → Type 0
+NoCapture (Shows events.Full) = ⊥
+NoCapture (Shows e) = Unit {0}
+NoCapture (Grown ok sizes) = Unit {0}
+NoCapture Captured = ⊥
 
 -- the state before other answers to growths
 abbrev pub answering_with : List Bool → State1 → State1
@@ -42,13 +43,13 @@ answering_with g s = record s { grows = g }
 pub record Even (s t : State1) : Type 0 where
   pub begins : Begins s.trace t.trace
   pub told : answers (seen t.trace) ≡ answers (seen s.trace)
-  pub not_full : AllByRecursion NotFull s.trace → AllByRecursion NotFull t.trace
+  pub no_capture : AllByRecursion NoCapture s.trace → AllByRecursion NoCapture t.trace
 
 pub even_same : (s t : State1) → t.trace ≡ s.trace → Even s t
 even_same s t e = record {
   begins = subst (λ l. Begins s.trace l) (sym e) (begins_same s.trace);
   told = ap (λ l. answers (seen l)) e;
-  not_full = subst (λ l. AllByRecursion NotFull l) (sym e);
+  no_capture = subst (λ l. AllByRecursion NoCapture l) (sym e);
 }
 
 pub even_itself : (s : State1) → Even s s
@@ -58,18 +59,18 @@ pub even_trans : (a b c : State1) → Even a b → Even b c → Even a c
 even_trans a b c f g = record {
   begins = begins_trans a.trace b.trace c.trace f.begins g.begins;
   told = g.told ∙ f.told;
-  not_full = λ h. g.not_full (f.not_full h);
+  no_capture = λ h. g.no_capture (f.no_capture h);
 }
 
 pub all_append : {A : Type 0} (P : A → Type 0) (xs : List A) (x : A) → AllByRecursion P xs → P x → AllByRecursion P (xs ++ x ∷ [])
 all_append P [] x h p = (p, tt)
 all_append P (y ∷ xs) x h p = (h.0, all_append P xs x h.1 p)
 
-pub even_show : (e : Event) (s : State1) → (Shows e ≡ Shows events.Full → ⊥) → Even s (show e s)
+pub even_show : (e : Event) (s : State1) → NoCapture (Shows e) → Even s (show e s)
 even_show e s other = record {
   begins = begins_append s.trace (Shows e ∷ []);
   told = answers-shown s.trace e;
-  not_full = λ h. all_append NotFull s.trace (Shows e) h other;
+  no_capture = λ h. all_append NoCapture s.trace (Shows e) h other;
 }
 
 -- the laws as the kit asks for them
@@ -80,14 +81,10 @@ order = record {
   joins = λ a b c. begins_trans a.trace b.trace c.trace;
 }
 
-abbrev pub NeverFull : Jump → Type 0
-NeverFull Full = ⊥
-NeverFull j = Unit {0}
-
 abbrev pub clean : Kept State1
 clean = record {
-  Always = λ s. AllByRecursion NotFull s.trace;
-  At = λ j s. NeverFull j;
+  Always = λ s. AllByRecursion NoCapture s.trace;
+  At = λ j s. Unit {0};
   trap = λ s h. tt;
   stuck = λ s h. tt;
   branch = λ k i s h. tt;
@@ -106,80 +103,71 @@ answering = record {
 }
 
 -- plain instructions
-abbrev pub LeavesNotFull : PlainRes Val1 State1 → Type 0
-LeavesNotFull (Go p) = Unit {0}
-LeavesNotFull (Leave j p) = j ≡ Full → ⊥
-
 pub record EvenHere (s : State1) (here : PlainRes Val1 State1) (there : List Bool → PlainRes Val1 State1) : Type 0 where
   pub even : Even s (state_after here)
   pub again : (g : List Bool) → there g ≡ freed_plain answering g here
-  pub not_full : LeavesNotFull here
 
 pub record EvenAct (act : Plain Val1 State1 → PlainRes Val1 State1) : Type 0 where
   pub here : (p : Plain Val1 State1) → EvenHere p.state (act p) (λ g. act (free_plain answering g p))
 
-pub not_full_at : (j : Jump) → (j ≡ Full → ⊥) → NeverFull j
-not_full_at Full h = h refl
-not_full_at j h = tt
-
-clean_after : (s : State1) (r : PlainRes Val1 State1) → Even s (state_after r) → LeavesNotFull r → AllByRecursion NotFull s.trace → PlainAfter clean r
-clean_after s (Go p) e n h = e.not_full h
-clean_after s (Leave j p) e n h = record { always = e.not_full h; at_jump = not_full_at j n }
+clean_after : (r : PlainRes Val1 State1) → AllByRecursion NoCapture (state_after r).trace → PlainAfter clean r
+clean_after (Go p) h = h
+clean_after (Leave j p) h = record { always = h; at_jump = tt }
 
 module _ (act : Plain Val1 State1 → PlainRes Val1 State1) (h : EvenAct act) where
   pub even_leads : LeadsOn order act
   even_leads p = (h.here p).even.begins
 
   pub even_clean : Keeps clean act
-  even_clean p k = clean_after p.state (act p) (h.here p).even (h.here p).not_full k
+  even_clean p k = clean_after (act p) ((h.here p).even.no_capture k)
 
   pub even_replays : ActReplays answering act
   even_replays = untouched answering act even_leads (λ p. (h.here p).even.told) (λ p g. (h.here p).again g)
 
 trap_here : (p : Plain Val1 State1) → EvenHere p.state (Leave jumps.Trap p) (λ g. Leave jumps.Trap (free_plain answering g p))
-trap_here p = record { even = even_itself p.state; again = λ g. refl; not_full = λ e. cc }
+trap_here p = record { even = even_itself p.state; again = λ g. refl }
 
 operands_here : (p : Plain Val1 State1) (o : Option (List Val1)) → EvenHere p.state (operands_or_trap p o) (λ g. operands_or_trap (free_plain answering g p) o)
 operands_here p None = trap_here p
-operands_here p (Some operands) = record { even = even_itself p.state; again = λ g. refl; not_full = tt }
+operands_here p (Some operands) = record { even = even_itself p.state; again = λ g. refl }
 
 pub even_operands : (f : List Val1 → Option (List Val1)) → EvenAct (on_operands f)
 even_operands f = record { here = λ p. operands_here p (f p.operands) }
 
 store_here : (p : Plain Val1 State1) (o : Effect) → EvenHere p.state (effect_or_trap p o) (λ g. effect_or_trap (free_plain answering g p) o)
 store_here p None = trap_here p
-store_here p (Some r) = record { even = even_same p.state (in_store r.1 p.state) refl; again = λ g. refl; not_full = tt }
+store_here p (Some r) = record { even = even_same p.state (in_store r.1 p.state) refl; again = λ g. refl }
 
 pub even_store : (f : List Val1 → Store1 → Effect) → EvenAct (by_store f)
 even_store f = record { here = λ p. store_here p (f p.operands p.state.store) }
 
 pub even_nothing : EvenAct (Leaves.nothing {V = Val1} {S = State1})
-even_nothing = record { here = λ p. record { even = even_itself p.state; again = λ g. refl; not_full = tt } }
+even_nothing = record { here = λ p. record { even = even_itself p.state; again = λ g. refl } }
 
 pub even_get : (x : ℕ) → EvenAct (Leaves.get_local absent x)
-even_get x = record { here = λ p. record { even = even_itself p.state; again = λ g. refl; not_full = tt } }
+even_get x = record { here = λ p. record { even = even_itself p.state; again = λ g. refl } }
 
 pub even_set : (x : ℕ) → EvenAct (Leaves.set_local absent x)
-even_set x = record { here = λ p. record { even = even_itself p.state; again = λ g. refl; not_full = tt } }
+even_set x = record { here = λ p. record { even = even_itself p.state; again = λ g. refl } }
 
 pub even_tee : (x : ℕ) → EvenAct (Leaves.tee_local absent x)
-even_tee x = record { here = λ p. record { even = even_itself p.state; again = λ g. refl; not_full = tt } }
+even_tee x = record { here = λ p. record { even = even_itself p.state; again = λ g. refl } }
 
-pub even_jump : (j : Jump) → (j ≡ Full → ⊥) → EvenAct (Leaves.jump {V = Val1} {S = State1} j)
-even_jump j other = record { here = λ p. record { even = even_itself p.state; again = λ g. refl; not_full = other } }
+pub even_jump : (j : Jump) → EvenAct (Leaves.jump {V = Val1} {S = State1} j)
+even_jump j = record { here = λ p. record { even = even_itself p.state; again = λ g. refl } }
 
 where_here : (b : Bool) (k : ℕ) (p : Plain Val1 State1) → EvenHere p.state (jump_where b (jumps.Branch k) p) (λ g. jump_where b (jumps.Branch k) (free_plain answering g p))
-where_here true k p = record { even = even_itself p.state; again = λ g. refl; not_full = λ e. cc }
-where_here false k p = record { even = even_itself p.state; again = λ g. refl; not_full = tt }
+where_here true k p = record { even = even_itself p.state; again = λ g. refl }
+where_here false k p = record { even = even_itself p.state; again = λ g. refl }
 
 pub even_branch_if : (test : List Val1 → Bool) (k : ℕ) → EvenAct (Leaves.branch_if test k)
 even_branch_if test k = record { here = λ p. where_here (test p.operands) k (with_operands (below p.operands) p) }
 
 pub even_branch_table : (number : List Val1 → ℕ) (labels : List ℕ) (last : ℕ) → EvenAct (Leaves.branch_table number labels last)
-even_branch_table number labels last = record { here = λ p. record { even = even_itself p.state; again = λ g. refl; not_full = λ e. cc } }
+even_branch_table number labels last = record { here = λ p. record { even = even_itself p.state; again = λ g. refl } }
 
 -- growths
-no_more : (xs ys : List Bool) → xs ≡ xs ++ ys → ys ≡ []
+pub no_more : (xs ys : List Bool) → xs ≡ xs ++ ys → ys ≡ []
 no_more xs ys e = sym (append_cancel_left xs [] ys (append-nil xs ∙ e))
 
 granted_again : (fits b : Bool) → (fits && (fits && b)) ≡ (fits && b)
@@ -193,9 +181,9 @@ growth_leads : (p : Plain Val1 State1) (o : Option Growth1) → Begins p.state.t
 growth_leads p None = begins_same p.state.trace
 growth_leads p (Some g) = begins_append p.state.trace (Grown (grows1 g p.state) (sizes1 (after (grows1 g p.state) g p.state.store)) ∷ [])
 
-growth_clean : (p : Plain Val1 State1) (o : Option Growth1) → AllByRecursion NotFull p.state.trace → PlainAfter clean (grow_or_trap p o)
+growth_clean : (p : Plain Val1 State1) (o : Option Growth1) → AllByRecursion NoCapture p.state.trace → PlainAfter clean (grow_or_trap p o)
 growth_clean p None h = record { always = h; at_jump = tt }
-growth_clean p (Some g) h = all_append NotFull p.state.trace (Grown (grows1 g p.state) (sizes1 (after (grows1 g p.state) g p.state.store))) h (λ e. cc)
+growth_clean p (Some g) h = all_append NoCapture p.state.trace (Grown (grows1 g p.state) (sizes1 (after (grows1 g p.state) g p.state.store))) h tt
 
 growth_again : (p : Plain Val1 State1) (o : Option Growth1) (a t : List Bool) → answers (seen (state_after (grow_or_trap p o)).trace) ≡ answers (seen p.state.trace) ++ a → (grow_or_trap (free_plain answering (a ++ t) p) o ≡ freed_plain answering t (grow_or_trap p o)) ⊎ PastPlain answering (grow_or_trap p o) (grow_or_trap (free_plain answering (a ++ t) p) o)
 growth_again p None a t e = inl (ap (λ l. Leave jumps.Trap (free_plain answering (l ++ t) p)) (no_more (answers (seen p.state.trace)) a e))
@@ -226,8 +214,8 @@ set_step (Some _) v = record { even = even_itself; again = λ g s. refl }
 set_step None v = record { even = even_itself; again = λ g s. refl }
 
 bytes_even : (o : Option (List ℕ)) (s : State1) → Even s (shown_bytes o s)
-bytes_even None s = even_show events.OutOfRange s (λ e. cc)
-bytes_even (Some bytes) s = even_show (events.Peeked bytes) s (λ e. cc)
+bytes_even None s = even_show events.OutOfRange s tt
+bytes_even (Some bytes) s = even_show (events.Peeked bytes) s tt
 
 bytes_again : (o : Option (List ℕ)) (g : List Bool) (s : State1) → shown_bytes o (answering_with g s) ≡ answering_with g (shown_bytes o s)
 bytes_again None g s = refl
@@ -250,7 +238,7 @@ peek_step (Some _) at count = record { even = even_itself; again = λ g s. refl 
 peek_step None at count = record { even = even_itself; again = λ g s. refl }
 
 poked_even : (x : ℕ) (m : Memory1) (o : Option (List ℕ)) (s : State1) → Even s (poked x m o s)
-poked_even x m None s = even_show events.OutOfRange s (λ e. cc)
+poked_even x m None s = even_show events.OutOfRange s tt
 poked_even x m (Some bytes) s = even_same s _ refl
 
 poked_again : (x : ℕ) (m : Memory1) (o : Option (List ℕ)) (g : List Bool) (s : State1) → poked x m o (answering_with g s) ≡ answering_with g (poked x m o s)
@@ -291,15 +279,14 @@ answer_here m x (Some (reply ∷ more)) s =
     record {
       even = even_trans s rest (acts1 m reply.acts rest) (even_same s rest refl) ((acts_step m reply.acts).even rest);
       again = λ g. ap (λ t. Go (record { operands = reverse (map value_from reply.values); locals = []; state = t })) ((acts_step m reply.acts).again g rest);
-      not_full = tt;
     }
-answer_here m x (Some []) s = record { even = even_itself s; again = λ g. refl; not_full = λ e. cc }
-answer_here m x None s = record { even = even_itself s; again = λ g. refl; not_full = λ e. cc }
+answer_here m x (Some []) s = record { even = even_itself s; again = λ g. refl }
+answer_here m x None s = record { even = even_itself s; again = λ g. refl }
 
 pub even_host : (m : Module1) (x : ℕ) → EvenAct (call_host m x)
 even_host m x = record {
   here = λ p.
       let s = show (events.HostCall x (map host_value (reverse p.operands)) (exported_values m p.state)) p.state in
       let rest = answer_here m x (slice_get p.state.replies x) s in
-      record { even = even_trans p.state s _ (even_show _ p.state (λ e. cc)) rest.even; again = rest.again; not_full = rest.not_full };
+      record { even = even_trans p.state s _ (even_show _ p.state tt) rest.even; again = rest.again };
 }

@@ -1,2 +1,5 @@
-pub mod Growing
 pub mod Even
+pub mod Owed
+pub mod HostTasks
+pub mod RunLaws
+pub mod Layers

@@ -1,6 +1,6 @@
 -- "Memory Instructions", and "Variable Instructions" on globals, of chapter 4 of 1.0: what operands and store become, or
 -- none where the instruction traps. A module of 1.0 has one memory, with index 0.
-use Rattle.std.specs.Prelude.{ℕ, ◌+◌, ◌-◌, ◌*◌, ◌^◌, Bool, nat_le, if◌then◌else◌, List, [], ◌∷◌, ◌++◌, replicate, set, slice_get, slice_index_or, Option, Some, None, option_map, option_and_then}
+use Rattle.std.specs.Prelude.{ℕ, ◌+◌, ◌-◌, ◌*◌, ◌^◌, nat_le, if◌then◌else◌, List, ◌∷◌, ◌++◌, replicate, set, slice_get, slice_index_or, Option, Some, None, option_map, option_and_then}
 use Rattle.num_core.specs.declared.operators.Load.{Load}
 use Rattle.num_core.specs.declared.operators.Store.{Store}
 use Rattle.num_core.specs.Accesses.{load_width, load_bytes}

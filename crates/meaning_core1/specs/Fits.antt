@@ -10,7 +10,7 @@ use Rattle.host_kit.specs.declared.script.Reply.{Reply}
 use Rattle.host_kit.specs.declared.script.Script.{Script}
 use Rattle.host_kit.specs.declared.value.Value.{Value}
 use Rattle.host_kit.specs.declared.value.Value.TheVariants as values
-use Rattle.core1_ast.specs.Spaces.{GlobalType, func_import, imported_globals, all_globals, all_memories}
+use Rattle.core1_ast.specs.Spaces.{func_import, imported_globals, all_globals, all_memories}
 use Rattle.core1_ast.specs.declared.module.ty.Ty1.{Ty1}
 use Rattle.core1_ast.specs.declared.module.ty.Ty1.TheVariants as types
 use Rattle.core1_ast.specs.declared.module.ty.FuncType1.{FuncType1}

@@ -1,13 +1,12 @@
 -- Instantiation of a module of 1.0 ("Modules" of chapter 4 of 1.0, "Instantiation"): the ranges of all active segments
 -- are tested before any is written.
-use Rattle.std.specs.Prelude.{ℕ, ◌+◌, ◌*◌, Bool, true, false, ◌&&◌, nat_le, if◌then◌else◌, List, [], ◌∷◌, ◌++◌, length, map, take, drop, replicate, set, slice_get, slice_index_or, Option, Some, None, option_map}
+use Rattle.std.specs.Prelude.{ℕ, ◌+◌, ◌*◌, Bool, false, ◌&&◌, nat_le, if◌then◌else◌, List, [], ◌∷◌, ◌++◌, length, map, take, drop, replicate, set, slice_get, slice_index_or, Option, Some, None, option_map}
 use Rattle.std.specs.List.{list_all}
 use Rattle.host_kit.specs.declared.script.Script.{Script}
 use Rattle.core1_ast.specs.Spaces.{all_tables, all_memories}
 use Rattle.core1_ast.specs.declared.module.ty.Limits1.{Limits1}
 use Rattle.core1_ast.specs.declared.module.code.Instr1.{Instr1, out-Instr1}
 use Rattle.core1_ast.specs.declared.module.code.Instr1.TheOpen.{Instr1-F}
-use Rattle.core1_ast.specs.declared.module.parts.Global1.{Global1}
 use Rattle.core1_ast.specs.declared.module.parts.Element1.{Element1}
 use Rattle.core1_ast.specs.declared.module.parts.Segment1.{Segment1}
 use Rattle.core1_ast.specs.declared.module.parts.Module1.{Module1}

@@ -1,13 +1,4 @@
-pub mod Values
-pub mod Configurations
-pub mod Instructions
-pub mod Functions
-pub mod Modules
-pub mod Fitting
 pub mod Interface
-pub mod Covered
-pub mod Laws
-pub mod Example
 pub mod Store
 pub mod Operators
 pub mod Accesses
@@ -16,3 +7,5 @@ pub mod Language
 pub mod Instances
 pub mod Runs
 pub mod Fits
+pub mod RunLaws
+pub mod Examples

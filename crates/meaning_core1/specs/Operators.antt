@@ -1,7 +1,6 @@
 -- "Numeric Instructions" and "Parametric Instructions" of chapter 4 of 1.0: what the operands become, or none where the
 -- instruction traps. The last operand lies on the top.
 use Rattle.std.specs.Prelude.{ℕ, Bool, not, nat_eq, if◌then◌else◌, List, ◌∷◌, Option, Some, option_map}
-use Rattle.num_core.specs.declared.operators.Width.TheVariants.{W32, W64}
 use Rattle.num_core.specs.declared.operators.Conv.TheVariants as conversions
 use Rattle.num_core.specs.Integers.{binary, unary, is_zero, compares, convert}
 use Rattle.core1_ast.specs.declared.module.op.Conv1.{Conv1}

@@ -1,6 +1,6 @@
 -- The laws of runs as the kit asks for them: which states lead to which, what every state keeps, where a run's own answers
 -- stand, and where its bounds do. And what even instructions give to each.
-use Rattle.std.proofs.Common.{◌≡◌, ℕ, ◌≤◌, Bool, true, List, [], ◌∷◌, ◌++◌, map, Option, Some, None, refl, sym, ap, ◌∙◌, subst, append_assoc, ◌⊎◌, inl, inr}
+use Rattle.std.proofs.Common.{◌≡◌, ℕ, ◌≤◌, Bool, true, List, [], ◌∷◌, ◌++◌, map, refl, sym, ap, ◌∙◌, subst, append_assoc, ◌⊎◌, inl, inr}
 use Rattle.std.specs.Prelude.{nat_lt}
 use Rattle.std.specs.List.{AllByRecursion}
 use Rattle.host_kit.specs.Trace.{Mark, Shows, Captured, Begins, seen, answers, captured, cut}
@@ -13,7 +13,7 @@ use Rattle.outcome_kit.specs.Code.{Go, Leave}
 use Rattle.outcome_kit.proofs.Growing.{Order}
 use Rattle.evaluation_kit.specs.Configurations.{Plain, PlainRes}
 use Rattle.evaluation_kit.proofs.Growing.{state_after, LeadsOn}
-use Rattle.evaluation_kit.proofs.Invariants.{Kept, After, PlainAfter, Keeps}
+use Rattle.evaluation_kit.proofs.Invariants.{Kept, PlainAfter, Keeps}
 use Rattle.evaluation_kit.proofs.Replaying.{Answering, ActReplays, untouched}
 use Rattle.evaluation_kit.proofs.Cutting.{Bounding, ActCuts, bounded_plain}
 use Rattle.meaning_new.specs.declared.val.Val.{Val}

@@ -1,12 +1,11 @@
 -- What instructions and hosts do evenly: they tell events alone, touch no bound and no answer, and do the same within
 -- other bounds.
-use Rattle.std.proofs.Common.{◌≡◌, ℕ, ◌+◌, Bool, true, false, if◌then◌else◌, List, [], ◌∷◌, ◌++◌, map, reverse, take, Option, Some, None, refl, sym, ap, ◌∙◌, subst}
+use Rattle.std.proofs.Common.{◌≡◌, ℕ, Bool, List, [], ◌∷◌, ◌++◌, refl, sym, ap, ◌∙◌, subst}
 use Rattle.std.specs.List.{AllByRecursion}
 use Rattle.host_kit.specs.Trace.{Mark, Shows, Begins, seen, answers, captured, cut}
 use Rattle.host_kit.proofs.Marks.{begins_same, begins_append, begins_trans, answers-shown, captured-shown, cut-append}
 use Rattle.host_kit.specs.declared.event.Event.{Event}
 use Rattle.host_kit.specs.declared.event.Event.TheVariants as events
-use Rattle.evaluation_kit.specs.declared.jump.Jump.{Jump}
 use Rattle.evaluation_kit.specs.declared.jump.Jump.TheVariants.{Full}
 use Rattle.outcome_kit.specs.Code.{Go, Leave}
 use Rattle.evaluation_kit.specs.Configurations.{Plain, PlainRes}

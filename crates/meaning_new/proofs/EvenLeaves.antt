@@ -1,6 +1,6 @@
 -- The plain instructions that are even: all but the growths.
-use Rattle.std.proofs.Common.{◌≡◌, ℕ, ◌-◌, Bool, true, false, if◌then◌else◌, List, [], ◌∷◌, ◌++◌, map, reverse, Option, Some, None, refl, sym, ap, ◌∙◌, subst}
-use Rattle.std.specs.Prelude.{slice_get, set, nat_lt, option_map, option_and_then}
+use Rattle.std.proofs.Common.{◌≡◌, ℕ, Bool, true, false, List, [], ◌∷◌, map, reverse, Option, Some, None, refl, ap, ◌∙◌}
+use Rattle.std.specs.Prelude.{slice_get, set}
 use Rattle.host_kit.specs.declared.event.Event.TheVariants as events
 use Rattle.host_kit.specs.declared.script.Act.{Act}
 use Rattle.host_kit.specs.declared.script.Act.TheVariants.{Set, Peek, Poke}
@@ -12,7 +12,7 @@ use Rattle.wasm_ast.specs.declared.module.parts.Module.{Module}
 use Rattle.evaluation_kit.specs.declared.jump.Jump.{Jump}
 use Rattle.evaluation_kit.specs.declared.jump.Jump.TheVariants as jumps
 use Rattle.outcome_kit.specs.Code.{Go, Leave}
-use Rattle.evaluation_kit.specs.Configurations.{Plain, PlainRes}
+use Rattle.evaluation_kit.specs.Configurations.{Plain}
 use Rattle.evaluation_kit.specs.Leaves
 use Rattle.evaluation_kit.specs.Leaves.{operands_or_trap, on_operands, jump_where, top, below, read_range, with_operands}
 use Rattle.meaning_new.specs.declared.val.Val.{Val}
@@ -22,7 +22,7 @@ use Rattle.meaning_new.specs.Exceptions.{thrown, throw, throw_ref}
 use Rattle.meaning_new.specs.Host.{export_of, global_values, set_export, exported_memory, told_bytes, peek, told_write, poke, act, acts, replied, host_call}
 use Rattle.meaning_new.specs.Memories.{write_at}
 use Rattle.meaning_new.specs.Forms.{pick, tail_call, tail_call_by}
-use Rattle.meaning_new.proofs.Even.{redial, redial_plain, redial_res, Even, even_same, even_itself, even_trans, even_tell, EvenAct, EvenHere, even_act, LeavesNotFull}
+use Rattle.meaning_new.proofs.Even.{redial, redial_plain, Even, even_same, even_itself, even_trans, even_tell, EvenAct, EvenHere, even_act}
 
 -- a trap leaves all as it is, and so does what only moves operands and locals
 trap_here : (p : Plain Val State) → EvenHere p.state (Leave jumps.Trap p) (λ g permits room. Leave jumps.Trap (redial_plain g permits room p))

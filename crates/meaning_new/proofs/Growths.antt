@@ -1,19 +1,19 @@
 -- Growths keep to the laws of runs: each takes an answer and is told of.
-use Rattle.std.proofs.Common.{◌≡◌, ℕ, ◌+◌, ◌≤◌, Bool, true, false, ◌&&◌, if◌then◌else◌, List, [], ◌∷◌, ◌++◌, ◌⊎◌, inl, inr, Option, Some, None, refl, sym, ap, ◌∙◌, subst, append_assoc, append-nil, zero-add}
+use Rattle.std.proofs.Common.{◌≡◌, ℕ, ◌+◌, ◌≤◌, Bool, true, false, ◌&&◌, if◌then◌else◌, List, [], ◌∷◌, ◌++◌, ◌⊎◌, inl, inr, Option, Some, None, refl, sym, ap, ◌∙◌, subst, append_assoc, append-nil}
 use Rattle.std.proofs.lemmas.List.{append_cancel_left}
 use Rattle.std.specs.List.{AllByRecursion}
 use Rattle.host_kit.specs.Trace.{Mark, Grown, Begins, seen, answers, captured, cut}
 use Rattle.host_kit.proofs.Marks.{begins_same, begins_append, answers-grown, captured-grown, cut-append}
 use Rattle.evaluation_kit.specs.declared.jump.Jump.TheVariants.{Trap}
-use Rattle.outcome_kit.specs.Code.{Go, Leave}
-use Rattle.evaluation_kit.specs.Configurations.{Plain, PlainRes}
-use Rattle.evaluation_kit.specs.Leaves.{top, below}
+use Rattle.outcome_kit.specs.Code.{Leave}
+use Rattle.evaluation_kit.specs.Configurations.{Plain}
+use Rattle.evaluation_kit.specs.Leaves.{top}
 use Rattle.evaluation_kit.proofs.Growing.{state_after, LeadsOn}
 use Rattle.evaluation_kit.proofs.Invariants.{PlainAfter, Keeps}
 use Rattle.evaluation_kit.proofs.Replaying.{ActReplays, free_plain, freed_plain, PastPlain}
 use Rattle.evaluation_kit.proofs.Cutting.{ActCuts, bound_plain, bounded_plain}
 use Rattle.meaning_new.specs.declared.val.Val.{Val}
-use Rattle.meaning_new.specs.Store.{Store, State, Growth, sizes, is_granted, told_growth, settled_growth, growth_or_trap, on_growth}
+use Rattle.meaning_new.specs.Store.{Store, State, Growth, sizes, is_granted, settled_growth, growth_or_trap, on_growth}
 use Rattle.meaning_new.proofs.Even.{NotFull, redial, all_append}
 use Rattle.meaning_new.proofs.Bounds.{order, roomy, Roomy, counted, Counted, answering, bounding, Open, Parted, any_sizes, any_room}
 

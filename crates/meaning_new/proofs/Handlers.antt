@@ -1,13 +1,13 @@
 -- Handlers keep to the laws of runs: one that keeps a reference captures, where there is room, and else code leaves by Full.
-use Rattle.std.proofs.Common.{◌≡◌, ℕ, suc, ◌+◌, ◌≤◌, Bool, true, false, if◌then◌else◌, List, [], ◌∷◌, ◌++◌, map, ◌⊎◌, inl, inr, Option, Some, None, refl, sym, ap, ◌∙◌, subst, append_assoc, append-nil, arith}
+use Rattle.std.proofs.Common.{◌≡◌, ℕ, ◌+◌, ◌≤◌, Bool, true, false, if◌then◌else◌, List, [], ◌∷◌, ◌++◌, ◌⊎◌, inl, inr, Option, Some, None, refl, sym, ap, ◌∙◌, subst, append_assoc, append-nil, arith}
 use Rattle.std.proofs.lemmas.List.{append_cancel_left}
 use Rattle.std.specs.Prelude.{find, slice_get, nat_lt}
 use Rattle.std.specs.List.{AllByRecursion}
-use Rattle.host_kit.specs.Trace.{Mark, Captured, Begins, seen, answers, captured, cut}
+use Rattle.host_kit.specs.Trace.{Captured, Begins, seen, answers, captured, cut}
 use Rattle.host_kit.proofs.Marks.{begins_same, begins_append, answers-captured, captured-captured, cut-append}
 use Rattle.wasm_ast.specs.declared.module.immediates.Catch.{Catch}
 use Rattle.wasm_ast.specs.declared.module.immediates.Catch.TheVariants as catches
-use Rattle.evaluation_kit.specs.declared.jump.Jump.TheVariants.{Throw, Full}
+use Rattle.evaluation_kit.specs.declared.jump.Jump.TheVariants.{Throw}
 use Rattle.evaluation_kit.specs.Control.{Caught}
 use Rattle.evaluation_kit.proofs.Growing.{CaughtLeads}
 use Rattle.evaluation_kit.proofs.Invariants.{After, CaughtKeeps}
@@ -19,7 +19,7 @@ use Rattle.meaning_new.specs.declared.val.Val.{Val}
 use Rattle.meaning_new.specs.Store.{State, Exception, mark}
 use Rattle.meaning_new.specs.Exceptions.{catch, catch_ref, caught_ref, caught_by, caught, takes, handler}
 use Rattle.meaning_new.proofs.Even.{NotFull, redial, all_append}
-use Rattle.meaning_new.proofs.Bounds.{order, roomy, Roomy, counted, Counted, answering, Beyond, bounding, Open, Parted, any_sizes, any_room}
+use Rattle.meaning_new.proofs.Bounds.{order, roomy, Roomy, counted, Counted, answering, bounding, Open, Parted, any_sizes, any_room}
 
 -- what a law says of an exception that is caught, as a function of the state in which it is
 abbrev Catcher : Type 0

@@ -1,9 +1,9 @@
 -- What a host does keeps to each law of runs.
-use Rattle.std.proofs.Common.{◌≡◌, ℕ, ◌+◌, ◌≤◌, Bool, true, List, [], ◌∷◌, ◌++◌, map, reverse, ◌⊎◌, inl, inr, Option, Some, None, refl, sym, ap, ◌∙◌, subst, append_assoc, append-nil}
+use Rattle.std.proofs.Common.{◌≡◌, ℕ, ◌+◌, ◌≤◌, Bool, List, [], ◌∷◌, ◌++◌, map, ◌⊎◌, inl, inr, Option, Some, None, refl, sym, ap, ◌∙◌, subst, append_assoc, append-nil}
 use Rattle.std.proofs.lemmas.List.{append_cancel_left}
 use Rattle.std.specs.Prelude.{slice_get}
 use Rattle.std.specs.List.{AllByRecursion}
-use Rattle.host_kit.specs.Trace.{Mark, Shows, Captured, Begins, seen, answers, captured, cut}
+use Rattle.host_kit.specs.Trace.{Shows, Begins, seen, answers}
 use Rattle.host_kit.proofs.Marks.{begins_append, answers-shown, captured-shown, cut-append}
 use Rattle.host_kit.specs.declared.event.Event.{Event}
 use Rattle.host_kit.specs.declared.event.Event.TheVariants as events
@@ -23,15 +23,14 @@ use Rattle.evaluation_kit.specs.Tasks.{Status, Task, Change, Enter}
 use Rattle.evaluation_kit.proofs.Growing.{state_after}
 use Rattle.evaluation_kit.proofs.Invariants.{After, PlainAfter}
 use Rattle.evaluation_kit.proofs.Replaying.{freed_plain}
-use Rattle.evaluation_kit.proofs.Cutting.{bounded_plain}
-use Rattle.evaluation_kit.proofs.TaskLaws.{status_state, TaskLeads, TaskKeeps, StatusAfter, TaskReplays, ChangeReplays, ShownReplays, freed_status, TaskCuts, ChangeCuts, ShownCuts, bounded_status}
+use Rattle.evaluation_kit.proofs.TaskLaws.{status_state, TaskLeads, TaskKeeps, StatusAfter, TaskReplays, freed_status, TaskCuts, bounded_status}
 use Rattle.meaning_new.specs.declared.val.Val.{Val}
-use Rattle.meaning_new.specs.Store.{Store, State, Exception, tell, from_host, with_store}
-use Rattle.meaning_new.specs.Host.{export_of, act}
+use Rattle.meaning_new.specs.Store.{Store, State, Exception, tell, with_store}
+use Rattle.meaning_new.specs.Host.{export_of}
 use Rattle.meaning_new.specs.Instances.{place_segments}
-use Rattle.meaning_new.specs.Runs.{instantiated, started, start_task, trapped, uncaught, answered, call_task, item_task, item_tasks, run_tasks}
-use Rattle.meaning_new.proofs.Even.{NotFull, redial, redial_plain, redial_res, LeavesNotFull, Even, even_itself, even_same, even_tell, all_append}
-use Rattle.meaning_new.proofs.EvenLeaves.{EvenStep, act_step}
+use Rattle.meaning_new.specs.Runs.{instantiated, started, start_task, uncaught, answered, call_task, item_task, item_tasks, run_tasks}
+use Rattle.meaning_new.proofs.Even.{redial, redial_plain, redial_res, LeavesNotFull, Even, even_itself, even_same, even_tell, all_append}
+use Rattle.meaning_new.proofs.EvenLeaves.{act_step}
 use Rattle.meaning_new.proofs.Bounds.{order, roomy, Roomy, counted, Counted, answering, bounding, Open, any_sizes, any_room, roomy_even, counted_even, open_even, not_full_at, not_full_count, bounded_redial}
 
 abbrev redial_status : List Bool → (List ℕ → Bool) → (ℕ → Bool) → Status State → Status State
@@ -247,7 +246,7 @@ replays (Enter x operands see) h = record {
   again = λ r a t e.
       let none = nothing_told (answers (seen (state_after r).trace)) a (sym (shown_told see h r) ∙ e) in
       ap (λ l. see (freed_plain answering (l ++ t) r)) none ∙ ap see (sym (free_res t r)) ∙ shown_redialed see h t any_sizes any_room r ∙ free_status t (see r);
-  ends = λ operands locals s. record {
+  ends = λ operands locals s u p. record {
     state = tell events.Full s;
     is_full = h.full (record { operands = operands; locals = locals; state = s });
     beyond = λ v b. record {

@@ -1,4 +1,3 @@
-pub mod Growing
 pub mod Even
 pub mod EvenLeaves
 pub mod Bounds
@@ -7,3 +6,4 @@ pub mod Handlers
 pub mod Owed
 pub mod HostTasks
 pub mod RunLaws
+pub mod Layers

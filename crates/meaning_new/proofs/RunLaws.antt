@@ -1,10 +1,10 @@
 -- The laws of runs, from those of tasks.
-use Rattle.std.proofs.Common.{◌≡◌, ℕ, zero, suc, ◌≤◌, ◌⊎◌, inl, inr, Bool, true, false, List, [], ◌∷◌, ◌++◌, map, Option, Some, None, refl, sym, ap, ◌∙◌, subst, Contains, arith, le_refl, append-nil}
+use Rattle.std.proofs.Common.{◌≡◌, ℕ, ◌≤◌, ◌⊎◌, inl, inr, Bool, false, List, [], ◌∷◌, ◌++◌, Some, None, refl, sym, ap, ◌∙◌, subst, Contains, arith, le_refl, append-nil}
 use Rattle.std.specs.Prelude.{nat_lt}
 use Rattle.std.specs.List.{AllByRecursion}
 use Rattle.std.proofs.lemmas.List.Elements.{All-from_recursion}
-use Rattle.host_kit.specs.Trace.{Mark, Shows, Captured, Begins, seen, answers, captured, cut}
-use Rattle.host_kit.proofs.Marks.{begins_answers, captured_grows, begins_same}
+use Rattle.host_kit.specs.Trace.{Shows, Begins, seen, answers, captured, cut}
+use Rattle.host_kit.proofs.Marks.{begins_same}
 use Rattle.host_kit.specs.Scripts.{regrow}
 use Rattle.host_kit.specs.declared.event.Event.TheVariants as events
 use Rattle.host_kit.specs.declared.script.Script.{Script}
@@ -12,25 +12,24 @@ use Rattle.wasm_ast.specs.declared.module.parts.Module.{Module}
 use Rattle.evaluation_kit.specs.declared.jump.Jump.{Jump}
 use Rattle.evaluation_kit.specs.declared.jump.Jump.TheVariants.{Full}
 use Rattle.outcome_kit.specs.Outcome.{Out, Done, Halt, place_of}
-use Rattle.outcome_kit.specs.Code.{Go, Leave, stands}
+use Rattle.outcome_kit.specs.Code.{Go, Leave}
 use Rattle.outcome_kit.proofs.Growing.{Extends}
 use Rattle.evaluation_kit.specs.Configurations.{World}
 use Rattle.evaluation_kit.specs.Languages.{func}
-use Rattle.evaluation_kit.specs.Tasks.{Status, Task, tasks}
-use Rattle.evaluation_kit.proofs.Tasks.{OwesTask, status_place, status_at, status_jump, tasks_related}
+use Rattle.evaluation_kit.specs.Tasks.{Status, tasks}
+use Rattle.evaluation_kit.proofs.Tasks.{OwesTask, status_place, status_at, tasks_related}
 use Rattle.evaluation_kit.proofs.TaskLaws.{TaskLeads, growing_task, TaskKeeps, keeping_task, TaskReplays, replaying_task, TaskCuts, cutting_task}
 use Rattle.evaluation_kit.proofs.Growing.{Leads, leads_same, worlds, GrowsAt, growing}
-use Rattle.evaluation_kit.proofs.Invariants.{After, Leaves, KeptBy, keeping}
+use Rattle.evaluation_kit.proofs.Invariants.{After, Leaves, keeping}
 use Rattle.evaluation_kit.proofs.Replaying.{ReplaysAt, Replayed, freed, Past, free_world, replaying}
-use Rattle.evaluation_kit.proofs.Cutting.{CutsAt, Cut, bounded, bound_world, cutting}
-use Rattle.meaning_new.specs.declared.val.Val.{Val}
+use Rattle.evaluation_kit.proofs.Cutting.{CutsAt, Cut, bounded, cutting}
 use Rattle.meaning_new.specs.Store.{State}
 use Rattle.meaning_new.specs.Instances.{new_state}
 use Rattle.meaning_new.specs.Language.{language}
 use Rattle.meaning_new.specs.Runs.{run_tasks, trace, depth, bounded_trace, bounded_depth}
 use Rattle.meaning_new.specs.RunLaws.{Stopped}
-use Rattle.meaning_new.proofs.Even.{NotFull, redial}
-use Rattle.meaning_new.proofs.Bounds.{order, roomy, Roomy, counted, Counted, answering, Beyond, bounding, Open, Parted, any_sizes, any_room}
+use Rattle.meaning_new.proofs.Even.{NotFull}
+use Rattle.meaning_new.proofs.Bounds.{order, roomy, Roomy, counted, Counted, answering, bounding, any_sizes, any_room}
 use Rattle.meaning_new.proofs.Owed.{owes_growing, owes_roomy, owes_counted, owes_replaying, owes_cutting}
 use Rattle.meaning_new.proofs.HostTasks.{tasks_lead, tasks_roomy, tasks_counted, tasks_replay, tasks_cut}
 

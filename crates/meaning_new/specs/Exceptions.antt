@@ -4,7 +4,7 @@ use Rattle.host_kit.specs.Trace.{Captured, captured}
 use Rattle.wasm_ast.specs.declared.module.immediates.Catch.{Catch}
 use Rattle.wasm_ast.specs.declared.module.immediates.Catch.TheVariants as catches
 use Rattle.evaluation_kit.specs.declared.jump.Jump.TheVariants.{Branch, Throw, Trap, Full}
-use Rattle.outcome_kit.specs.Code.{Go, Leave}
+use Rattle.outcome_kit.specs.Code.{Leave}
 use Rattle.evaluation_kit.specs.Configurations.{Plain, PlainRes}
 use Rattle.evaluation_kit.specs.Control.{Caught, Handler}
 use Rattle.evaluation_kit.specs.Leaves.{top, below}

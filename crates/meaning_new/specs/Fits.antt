@@ -1,6 +1,6 @@
 -- That a script fits a module: it asks for nothing that the module does not offer, with values of the right types and
 -- within the ranges that scripts have.
-use Rattle.std.specs.Prelude.{◌≡◌, ℕ, ◌+◌, ◌-◌, ◌<◌, ◌≤◌, ◌^◌, true, List, [], ◌∷◌, ◌++◌, length, map, filter_map, slice_get, Option, Some, None, IsSomeAnd}
+use Rattle.std.specs.Prelude.{◌≡◌, ℕ, ◌-◌, ◌<◌, ◌≤◌, ◌^◌, true, List, [], ◌∷◌, length, filter_map, slice_get, Option, Some, None}
 use Rattle.std.specs.List.{AllByRecursion}
 use Rattle.host_kit.specs.declared.script.Act.{Act}
 use Rattle.host_kit.specs.declared.script.Act.TheVariants.{Set, Peek, Poke}
@@ -18,7 +18,7 @@ use Rattle.wasm_ast.specs.declared.module.parts.ExportDesc.TheVariants as export
 use Rattle.wasm_ast.specs.declared.module.parts.Module.{Module}
 use Rattle.meaning_new.specs.Forms.{type_of_func}
 use Rattle.meaning_new.specs.Host.{export_of}
-use Rattle.meaning_new.specs.Interface.{ExternType, global, all_globals, all_memories}
+use Rattle.meaning_new.specs.Interface.{global, all_globals, all_memories}
 
 -- the value has the type, and its number is one of the type's
 abbrev pub ValueHasType : Module → Value → Ty → Type 0

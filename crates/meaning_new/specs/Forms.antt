@@ -1,6 +1,6 @@
 -- The form of each instruction of a module ("Instructions" of chapter 4), and what its functions are: the language in
 -- which the module is written.
-use Rattle.std.specs.Prelude.{◌≡◌, ℕ, ◌-◌, Bool, true, false, not, nat_eq, nat_lt, bytes_eq, if◌then◌else◌, List, [], ◌∷◌, length, map, slice_get, slice_index_or, Option, Some, None, option_map, option_and_then, count_by}
+use Rattle.std.specs.Prelude.{ℕ, ◌-◌, Bool, true, false, not, nat_eq, nat_lt, bytes_eq, if◌then◌else◌, List, [], ◌∷◌, length, map, slice_get, Option, Some, None, option_map, option_and_then, count_by}
 use Rattle.wasm_ast.specs.Types.{type_key}
 use Rattle.wasm_ast.specs.Spaces.{func_indices}
 use Rattle.wasm_ast.specs.declared.module.ty.BlockType.{BlockType}
@@ -12,9 +12,8 @@ use Rattle.wasm_ast.specs.declared.module.parts.Module.{Module}
 use Rattle.wasm_ast.specs.declared.module.code.Body.{Body}
 use Rattle.wasm_ast.specs.declared.module.code.Instr.{Instr}
 use Rattle.wasm_ast.specs.declared.module.code.Instr.TheOpen.{Instr-F}
-use Rattle.evaluation_kit.specs.declared.jump.Jump.{Jump}
 use Rattle.evaluation_kit.specs.declared.jump.Jump.TheVariants as jumps
-use Rattle.outcome_kit.specs.Code.{Go, Leave}
+use Rattle.outcome_kit.specs.Code.{Leave}
 use Rattle.evaluation_kit.specs.Configurations.{Plain, PlainRes}
 use Rattle.evaluation_kit.specs.Control.{Function, Callee, Own, Host}
 use Rattle.evaluation_kit.specs.Forms.{Form, Flat, Enclose, Repeat, Choose, Guard, Invoke, InvokeBy}

@@ -1,6 +1,6 @@
 -- What the host does between and inside calls: this project's own, by the names of exports. An act that asks for nothing
 -- that the module exports does nothing; a script that fits has none.
-use Rattle.std.specs.Prelude.{ℕ, ◌+◌, List, [], ◌∷◌, length, map, filter_map, find, bytes_eq, reverse, set, slice_get, slice_index_or, Option, Some, None, option_map}
+use Rattle.std.specs.Prelude.{ℕ, List, [], ◌∷◌, map, filter_map, find, bytes_eq, reverse, set, slice_get, slice_index_or, Option, Some, None, option_map}
 use Rattle.host_kit.specs.declared.event.Event.TheVariants as events
 use Rattle.host_kit.specs.declared.script.Act.{Act}
 use Rattle.host_kit.specs.declared.script.Act.TheVariants.{Set, Peek, Poke}

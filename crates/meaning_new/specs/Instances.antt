@@ -1,6 +1,6 @@
 -- Instantiation ("Modules" of chapter 4, "Instantiation"): globals in order, then tables, element segments and data
 -- segments. Each active segment is written in order; the first that does not fit traps.
-use Rattle.std.specs.Prelude.{ℕ, ◌+◌, ◌*◌, Bool, true, false, List, [], ◌∷◌, ◌++◌, length, map, filter_map, replicate, slice_index_or, Option, Some, None, option_map, option_and_then}
+use Rattle.std.specs.Prelude.{ℕ, ◌+◌, ◌*◌, Bool, List, [], ◌∷◌, ◌++◌, length, map, filter_map, replicate, slice_index_or, Option, Some, None, option_and_then}
 use Rattle.host_kit.specs.declared.script.Script.{Script}
 use Rattle.wasm_ast.specs.declared.module.ty.Ty.{Ty}
 use Rattle.wasm_ast.specs.declared.module.ty.Limits.{Limits}
@@ -11,7 +11,6 @@ use Rattle.wasm_ast.specs.declared.module.parts.ImportDesc.TheVariants as import
 use Rattle.wasm_ast.specs.declared.module.parts.Mode.{Mode}
 use Rattle.wasm_ast.specs.declared.module.parts.Mode.TheVariants.{Active, Passive, Declarative}
 use Rattle.wasm_ast.specs.declared.module.parts.Global.{Global}
-use Rattle.wasm_ast.specs.declared.module.parts.Table as ast
 use Rattle.wasm_ast.specs.declared.module.parts.Element.{Element}
 use Rattle.wasm_ast.specs.declared.module.parts.Segment.{Segment}
 use Rattle.wasm_ast.specs.declared.module.parts.Module.{Module}

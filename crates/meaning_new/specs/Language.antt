@@ -1,12 +1,11 @@
 -- The language of a module: its instructions as a tree, their forms, and its functions.
-use Rattle.std.specs.Prelude.{◌≡◌, ℕ, Bool, true, List, [], ◌∷◌, map, refl}
+use Rattle.std.specs.Prelude.{◌≡◌, true, List, [], ◌∷◌, map, refl}
 use Rattle.std.proofs.Common.{ap, ◌∙◌, subst}
 use Rattle.wasm_ast.specs.declared.module.code.Instr.{Instr, roll-Instr}
 use Rattle.wasm_ast.specs.declared.module.code.Instr.TheOpen.{Instr-F}
 use Rattle.wasm_ast.specs.declared.module.code.Instr.TheFolds.{map-Instr, fold-Instr, fold-roll-Instr, ind-Instr}
 use Rattle.wasm_ast.specs.declared.module.parts.Module.{Module}
-use Rattle.evaluation_kit.specs.Configurations.{Plain}
-use Rattle.evaluation_kit.specs.Forms.{Form, map_form}
+use Rattle.evaluation_kit.specs.Forms.{map_form}
 use Rattle.evaluation_kit.specs.Languages.{Tree, Language}
 use Rattle.meaning_new.specs.declared.val.Val.{Val}
 use Rattle.meaning_new.specs.Store.{State}

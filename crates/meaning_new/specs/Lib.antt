@@ -1,12 +1,4 @@
-pub mod Values
-pub mod Configurations
-pub mod Instructions
-pub mod Functions
-pub mod Modules
-pub mod Fitting
 pub mod Interface
-pub mod Laws
-pub mod Example
 pub mod Store
 pub mod Numeric
 pub mod Memories
@@ -19,3 +11,4 @@ pub mod Language
 pub mod Runs
 pub mod Fits
 pub mod RunLaws
+pub mod Examples

@@ -1,6 +1,6 @@
 -- "Memory Instructions" of chapter 4: what operands and store become, or none where the instruction traps. A range is
 -- tested whole before anything is read or written, and then all of it is.
-use Rattle.std.specs.Prelude.{ℕ, ◌+◌, ◌-◌, ◌*◌, ◌%◌, ◌^◌, Bool, true, false, nat_le, if◌then◌else◌, List, [], ◌∷◌, ◌++◌, replicate, set, slice_get, slice_index_or, Option, Some, None, option_map, option_and_then}
+use Rattle.std.specs.Prelude.{ℕ, ◌+◌, ◌-◌, ◌*◌, ◌%◌, ◌^◌, Bool, nat_le, if◌then◌else◌, List, [], ◌∷◌, ◌++◌, replicate, set, slice_get, slice_index_or, Option, Some, None, option_map, option_and_then}
 use Rattle.num_core.specs.declared.operators.Load.{Load}
 use Rattle.num_core.specs.declared.operators.Store as stores
 use Rattle.num_core.specs.Accesses.{load_width, load_bytes}
@@ -12,7 +12,7 @@ use Rattle.lane_core.specs.Memory.{loaded_vector, vector_bytes, stored_lane, loa
 use Rattle.wasm_ast.specs.declared.module.immediates.MemArg.{MemArg}
 use Rattle.evaluation_kit.specs.Leaves.{below, read_range, write_range}
 use Rattle.meaning_new.specs.declared.val.Val.{Val}
-use Rattle.meaning_new.specs.declared.val.Val.TheVariants.{I32, V128}
+use Rattle.meaning_new.specs.declared.val.Val.TheVariants.{V128}
 use Rattle.meaning_new.specs.Store.{Store, Memory, After, Growth, int, address_width, page, page_count}
 use Rattle.meaning_new.specs.Numeric.{first, second, third}
 

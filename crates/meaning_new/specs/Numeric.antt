@@ -3,7 +3,6 @@
 use Rattle.std.specs.Prelude.{ℕ, Bool, true, false, List, ◌∷◌, Option, Some, option_map}
 use Rattle.num_core.specs.declared.operators.Width.{Width}
 use Rattle.num_core.specs.declared.operators.Width.TheVariants.{W32, W64}
-use Rattle.num_core.specs.declared.operators.Bin.{Bin}
 use Rattle.num_core.specs.Integers.{binary, unary, is_zero, compares, convert, width_to}
 use Rattle.lane_core.specs.declared.vector.Shape.{Shape}
 use Rattle.lane_core.specs.declared.vector.Shape.TheVariants.{I64x2}

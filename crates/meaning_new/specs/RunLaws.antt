@@ -1,5 +1,5 @@
 -- What every run keeps, for every module, script and number of turns, typed and fitting or not.
-use Rattle.std.specs.Prelude.{◌≡◌, ℕ, ◌+◌, ◌≤◌, ◌⊎◌, nat_lt, List, [], ◌∷◌, ◌++◌, map, Bool, Contains}
+use Rattle.std.specs.Prelude.{◌≡◌, ℕ, ◌≤◌, ◌⊎◌, nat_lt, List, [], ◌∷◌, ◌++◌, map, Bool, Contains}
 use Rattle.std.specs.List.{AllByRecursion}
 use Rattle.host_kit.specs.Trace.{Mark, Shows, Captured, Begins, seen, answers, captured, cut}
 use Rattle.host_kit.specs.Scripts.{regrow}

@@ -10,10 +10,9 @@ use Rattle.host_kit.specs.declared.value.Value.{Value}
 use Rattle.wasm_ast.specs.declared.module.parts.ExportDesc.{ExportDesc}
 use Rattle.wasm_ast.specs.declared.module.parts.ExportDesc.TheVariants.{Func}
 use Rattle.wasm_ast.specs.declared.module.parts.Module.{Module}
-use Rattle.evaluation_kit.specs.declared.jump.Jump.{Jump}
 use Rattle.evaluation_kit.specs.declared.jump.Jump.TheVariants.{Trap, Throw, NoReply, Full, Stuck}
 use Rattle.outcome_kit.specs.Code.{Go, Leave}
-use Rattle.evaluation_kit.specs.Configurations.{World, Plain, PlainRes}
+use Rattle.evaluation_kit.specs.Configurations.{World, PlainRes}
 use Rattle.evaluation_kit.specs.Languages.{func}
 use Rattle.evaluation_kit.specs.Tasks.{Status, Task, Change, Enter, world_after}
 use Rattle.meaning_new.specs.declared.val.Val.{Val}

@@ -1,6 +1,6 @@
 -- "Table Instructions" and "Variable Instructions" on globals, of chapter 4: what operands and store become, or none
 -- where the instruction traps.
-use Rattle.std.specs.Prelude.{ℕ, ◌+◌, ◌-◌, ◌^◌, Bool, nat_le, if◌then◌else◌, List, [], ◌∷◌, ◌++◌, length, replicate, set, slice_get, slice_index_or, Option, Some, None, option_map, option_and_then}
+use Rattle.std.specs.Prelude.{ℕ, ◌+◌, ◌-◌, ◌^◌, nat_le, if◌then◌else◌, List, [], ◌∷◌, ◌++◌, length, replicate, set, slice_get, slice_index_or, Option, Some, None, option_map, option_and_then}
 use Rattle.evaluation_kit.specs.Leaves.{top, below, read_range, write_range}
 use Rattle.meaning_new.specs.declared.val.Val.{Val}
 use Rattle.meaning_new.specs.declared.val.Val.TheVariants.{I32}

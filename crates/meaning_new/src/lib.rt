@@ -1,7 +1,7 @@
 // What a module of WebAssembly 3.0 does under a script, as definitions, and the laws that every run keeps.
 #![tactic(auto)]
 
-pub mod laws;
+pub mod examples;
 pub mod run_laws;
 mod val;
 

@@ -7,9 +7,8 @@ ghost use Rattle.lower_tool.specs.Core.{IsCore};
 ghost use Rattle.lower_tool.specs.Constants.{HasFittingConstants};
 ghost use Rattle.lower_tool.specs.Headline.{Same};
 ghost use Rattle.lower_tool.specs.MappedInterface.{SameInterface};
-ghost use Rattle.meaning_core1.specs.Covered.{IsCovered};
 ghost use Rattle.lower_tool.specs.Room.{HasRoom};
-ghost use Rattle.lower_tool.specs.Mapping.{flattened};
+ghost use Rattle.lower_tool.specs.Flattening.{flattened};
 ghost use Rattle.lower_tool.specs.Lowered.{lowered, lowered_type, lowered_export, lowered_body, lowered_desc};
 
 use super::code::lower_code;
@@ -24,7 +23,6 @@ use wasm_ast::module::{Body, Export, ExportDesc, FuncType, Module, Ty};
 pub fn lower_core(alloc: Global, source: &Module) -> Result<Module1, AllocError>
     requires { IsCore source.now }
     ensures typed { IfOk result Typed1 }
-    ensures covered { IfOk result IsCovered }
     ensures interface { IfOk result (SameInterface source.now) }
     ensures same { IfOk result (λ out. (captures : ℕ) → Same 4 16 source.now out captures) }
 {

@@ -1,12 +1,11 @@
 use Rattle.std.proofs.Common.{subst, sym}
 use Rattle.core1_ast.specs.Typing.{Typed1}
-use Rattle.meaning_core1.specs.Covered.{IsCovered}
 use Rattle.lower_tool.specs.MappedInterface.{SameInterface}
-use Rattle.lower_tool.proofs.Linked.{covered_lowered, same_interface}
+use Rattle.lower_tool.proofs.Linked.{same_interface}
 use Rattle.lower_tool.specs.Headline.{Same}
 use Rattle.lower_tool.specs.Room.{HasRoom}
 use Rattle.lower_tool.proofs.SameEvents.{same_lowered}
-use Rattle.lower_tool.proofs.TypedLowered.{typed_lowered, short_lowered, sound_core, core_constants}
+use Rattle.lower_tool.proofs.TypedLowered.{typed_lowered, short_lowered, core_constants}
 use Rattle.lower_tool.proofs.lowering.module.lower_core.Goals as goal
 
 pub returns-then-has_room-clause-typed : goal.returns-then-has_room-clause-typed
@@ -17,11 +16,7 @@ returns-then-has_room-clause-typed c =
 pub returns-then-has_room-clause-same : goal.returns-then-has_room-clause-same
 returns-then-has_room-clause-same c = λ captures.
     subst (λ out. Same 4 16 c.args.source.now out captures) (sym c.in_ok-out.ensures.lowered)
-    (same_lowered c.args.source.now captures (sound_core c.args.source.now c.requires (core_constants c.args.source.now c.requires c.in_ok-out.ensures.constants)))
-
-pub returns-then-has_room-clause-covered : goal.returns-then-has_room-clause-covered
-returns-then-has_room-clause-covered c =
-    subst IsCovered (sym c.in_ok-out.ensures.lowered) (covered_lowered c.args.source.now c.requires)
+    (same_lowered c.args.source.now captures c.requires (core_constants c.args.source.now c.requires c.in_ok-out.ensures.constants))
 
 pub returns-then-has_room-clause-interface : goal.returns-then-has_room-clause-interface
 returns-then-has_room-clause-interface c =

@@ -1,6 +1,6 @@
 use Rattle.std.proofs.Common.{◌≡◌, ◌++◌, drop}
 use Rattle.std.specs.List.{flat_map}
-use Rattle.lower_tool.specs.Mapping.{flattened}
+use Rattle.lower_tool.specs.Flattening.{flattened}
 use Rattle.lower_tool.proofs.lowering.module.lower_types.Given as goal
 
 -- what is lowered so far, with what is still to come, is all
