@@ -9,11 +9,21 @@ from pathlib import Path
 PROGRAM = os.environ.get("WASM1", "./wasm1")
 
 
+# Starts a program and prints its status, its CPU time and the most memory that it had. It is run by itself, since a
+# process counts the most memory of the one that started it as its own.
+MEASURE = """
+import os, subprocess, sys
+process = subprocess.Popen(sys.argv[1:], stdout=subprocess.DEVNULL, stderr=subprocess.DEVNULL)
+_, status, usage = os.wait4(process.pid, 0)
+print(os.waitstatus_to_exitcode(status), usage.ru_utime + usage.ru_stime, usage.ru_maxrss * 1024)
+"""
+
+
 def timed(words):
     """The status, the CPU time and the most memory of a run."""
-    process = subprocess.Popen(words, stdout=subprocess.DEVNULL, stderr=subprocess.DEVNULL)
-    _, status, usage = os.wait4(process.pid, 0)
-    return os.waitstatus_to_exitcode(status), usage.ru_utime + usage.ru_stime, usage.ru_maxrss * 1024
+    measured = subprocess.run([sys.executable, "-c", MEASURE, *words], check=True, capture_output=True, text=True)
+    status, seconds, memory = measured.stdout.split()
+    return int(status), float(seconds), int(memory)
 
 
 def compared(command, files):

@@ -5,4 +5,6 @@
 #[cfg(test)]
 mod outside;
 #[cfg(test)]
+mod pairs;
+#[cfg(test)]
 mod rows;

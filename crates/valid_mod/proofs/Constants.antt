@@ -1,5 +1,5 @@
 -- Constant expressions, and the parts that hold them.
-use Rattle.std.proofs.Common.{◌≡◌, ℕ, zero, suc, ◌+◌, ◌<◌, Bool, true, false, List, [], ◌∷◌, ◌++◌, append_assoc, add-one, map, take, length, Option, Some, None, is_some, IfSome, slice_get, Result, Ok, Err, IfOk, ap, sym, subst, ◌∙◌, arith}
+use Rattle.std.proofs.Common.{◌≡◌, ℕ, zero, suc, ◌+◌, ◌<◌, Bool, true, false, List, [], ◌∷◌, ◌++◌, append_assoc, add-one, map, take, length, Some, None, IfSome, slice_get, Result, Ok, Err, IfOk, ap, sym, subst, ◌∙◌, arith}
 use Rattle.std.specs.List.{AllByRecursion, list_all}
 use Rattle.wasm_ast.specs.declared.module.ty.Ty.{Ty}
 use Rattle.wasm_ast.specs.declared.module.ty.Ty.TheVariants.{I32}
@@ -12,23 +12,14 @@ use Rattle.wasm_ast.specs.declared.module.parts.Module.{Module}
 use Rattle.typing_kit.specs.Matching.{known}
 use Rattle.typing_kit.specs.Typing.{TypedCode}
 use Rattle.typed_trees.specs.declared.global_type.GlobalType.{GlobalType}
-use Rattle.typed_trees.specs.declared.node.Node.{Node}
 use Rattle.typed_trees.specs.Constants.{is_constant, TypedConstant}
 use Rattle.typed_trees.specs.Contexts.{Context, address_type, is_reference_type, is_value_type}
 use Rattle.typed_trees.specs.Forms.{language}
 use Rattle.typed_trees.specs.Matching.{matches}
 use Rattle.typed_trees.specs.Modules.{context, early_context, global_import, global_type, imported_of, TypedAddress, TypedElement, TypedElementMode, TypedGlobal, TypedInitialiser, TypedTable, TypedTableType, TypedTarget}
-use Rattle.valid_new.specs.Bodies.{BodyOr}
 use Rattle.valid_mod.specs.Parts.{Globals, globals_before, PartTyped}
-use Rattle.valid_mod.specs.Searches.{Decided}
+use Rattle.valid_new.specs.Judged.{Decided}
 use Rattle.valid_mod.proofs.Deciding.{decided_as, decided_no, decided_yes}
-
--- the code was typed, or it was not
-pub leaves_decided : (c : Context) (ls : List (List Ty)) (code : List Instr) (t : Ty) (found : Option (List Node)) (r : Bool) → r ≡ is_some found → BodyOr c ls code [] (t ∷ []) found → Decided r (TypedCode (language c) ls code [] (known (t ∷ [])))
-leaves_decided c ls code t None true e b = let no : true ≡ false = e in cc
-leaves_decided c ls code t None false e b = b
-leaves_decided c ls code t (Some nodes) true e b = b.typed
-leaves_decided c ls code t (Some nodes) false e b = let no : false ≡ true = e in cc
 
 -- the fact that an answer decides, of which another one follows and from which it follows
 pub decides_as : {E : Type 0} (r : Result Bool E) (P Q : Type 0) → (P → Q) → (Q → P) → IfOk r (λ yes. Decided yes P) → IfOk r (λ yes. Decided yes Q)

@@ -8,7 +8,7 @@ use Rattle.wasm_ast.specs.declared.module.ty.FuncType.{FuncType}
 use Rattle.wasm_ast.specs.declared.module.parts.Module.{Module}
 use Rattle.typed_trees.specs.Contexts.{Context, func_type, is_value_type}
 use Rattle.typed_trees.specs.Modules.{context, TypedFuncType, TypedStartFunc, TypedTag}
-use Rattle.valid_mod.specs.Searches.{Decided}
+use Rattle.valid_new.specs.Judged.{Decided}
 
 -- a test that is true exactly where the fact holds decides it
 pub decided_by : (r b : Bool) (P : Type 0) → r ≡ b → (b ≡ true → P) → (P → b ≡ true) → Decided r P

@@ -6,16 +6,13 @@ use Rattle.wasm_ast.specs.declared.module.parts.Module.{Module}
 use Rattle.typed_trees.specs.declared.module.TypedFn.{TypedFn}
 use Rattle.typed_trees.specs.Modules.{TypedFunc}
 use Rattle.valid_new.specs.Annotated.{Found, FoundOr, IsUntyped}
-use Rattle.valid_mod.specs.declared.bodies.Trees.{Trees}
-use Rattle.valid_mod.specs.declared.bodies.Trees.TheVariants.{Kept, Dropped}
-use Rattle.valid_mod.specs.Bodies.{AreKept, put}
+use Rattle.valid_mod.specs.Bodies.{AreBodies}
 use Rattle.valid_mod.specs.Parts.{Section, BodyTyped}
 use Rattle.valid_mod.specs.Verdict.{SectionTyped, FirstBody}
 
 module _ (m : Module) where
-  pub none_kept : (trees : Trees) (fns : List TypedFn) → fns ≡ [] → AreKept trees m 0 fns
-  none_kept Kept fns e = record { count = ap length e; found = λ k. subst (λ l. IfSome (slice_get l k) (Found m k)) (sym e) tt }
-  none_kept Dropped fns e = tt
+  pub none_kept : (fns : List TypedFn) → fns ≡ [] → AreBodies m 0 fns
+  none_kept fns e = record { count = ap length e; found = λ k. subst (λ l. IfSome (slice_get l k) (Found m k)) (sym e) tt }
 
   -- one item more, of which something holds at its place
   more_at : (P : ℕ → TypedFn → Type 0) (fns : List TypedFn) (f : TypedFn) → ((k : ℕ) → IfSome (slice_get fns k) (P k)) → P (length fns) f → (k : ℕ) → IfSome (slice_get (fns ++ f ∷ []) k) (P k)
@@ -24,15 +21,14 @@ module _ (m : Module) where
   more_at P (g ∷ fns) f h here zero = h 0
   more_at P (g ∷ fns) f h here (suc k) = more_at (λ j. P (suc j)) fns f (λ j. h (suc j)) here k
 
-  pub more_kept : (trees : Trees) (n : ℕ) (old new : List TypedFn) (f : TypedFn) → AreKept trees m n old → Found m n f → new ≡ put trees old f → AreKept trees m (n + 1) new
-  more_kept Kept n old new f are found e = record {
+  pub more_kept : (n : ℕ) (old new : List TypedFn) (f : TypedFn) → AreBodies m n old → Found m n f → new ≡ old ++ f ∷ [] → AreBodies m (n + 1) new
+  more_kept n old new f are found e = record {
     count = ap length e ∙ length-append old (f ∷ []) ∙ ap (λ k. k + 1) are.count;
     found = λ k. subst (λ l. IfSome (slice_get l k) (Found m k)) (sym e) (more_at (Found m) old f are.found (subst (λ k. Found m k f) (sym are.count) found) k);
   }
-  more_kept Dropped n old new f are found e = tt
 
-  pub kept_at : (trees : Trees) (n k : ℕ) (fns : List TypedFn) → n ≡ k → AreKept trees m n fns → AreKept trees m k fns
-  kept_at trees n k fns e h = subst (λ j. AreKept trees m j fns) e h
+  pub kept_at : (n k : ℕ) (fns : List TypedFn) → n ≡ k → AreBodies m n fns → AreBodies m k fns
+  kept_at n k fns e h = subst (λ j. AreBodies m j fns) e h
 
   pub body_typed : (k : ℕ) (f : TypedFn) → Found m k f → BodyTyped m k
   body_typed k f found =

@@ -14,7 +14,7 @@ use Rattle.wasm_ast.specs.declared.module.parts.Export.{Export}
 use Rattle.wasm_ast.specs.declared.module.parts.Module.{Module}
 use Rattle.typed_trees.specs.Modules.{TypedDesc}
 use Rattle.valid_mod.specs.Parts.{IsNew, PartTyped, Exports}
-use Rattle.valid_mod.specs.Searches.{Decided}
+use Rattle.valid_new.specs.Judged.{Decided}
 
 -- one of the first so many exports has the name
 pub record Named (xs : List Export) (n : ℕ) (name : List ℕ) : Type 0 where

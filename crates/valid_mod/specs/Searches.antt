@@ -1,5 +1,5 @@
--- What a search through the parts of a section finds, and what a test decides.
-use Rattle.std.specs.Prelude.{ℕ, ◌<◌, Bool, true, false, List, Option, Some, None, IfSome, slice_get}
+-- What a search through the parts of a section finds.
+use Rattle.std.specs.Prelude.{ℕ, ◌<◌, List, Option, Some, None, IfSome, slice_get}
 
 -- the first place, among so many, at which the fact does not hold
 abbrev pub Finds : (ℕ → Type 0) → ℕ → Option ℕ → Type 0
@@ -9,8 +9,3 @@ Finds P n (Some place) = (place < n) × ((k : ℕ) → k < place → P k) × (P 
 -- the fact of the item at a place
 abbrev pub At : {X : Type 0} → List X → (X → Type 0) → ℕ → Type 0
 At xs P k = IfSome (slice_get xs k) P
-
--- the answer says whether the fact holds
-abbrev pub Decided : Bool → Type 0 → Type 0
-Decided true P = P
-Decided false P = P → ⊥

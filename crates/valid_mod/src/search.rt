@@ -1,7 +1,8 @@
 // The search for the first part of a section that is not typed.
 
 ghost use Rattle.std.specs.Prelude.{length, IfOk};
-ghost use Rattle.valid_mod.specs.Searches.{At, Decided, Finds};
+ghost use Rattle.valid_new.specs.Judged.{Decided};
+ghost use Rattle.valid_mod.specs.Searches.{At, Finds};
 
 use std::alloc::AllocError;
 

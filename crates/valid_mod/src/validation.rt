@@ -8,7 +8,7 @@ ghost use Rattle.valid_mod.specs.Standing.{StandsFor};
 ghost use Rattle.valid_mod.specs.Verdict.{IsVerdict, Settles, Tells, verdict_of};
 
 use crate::bare::parts_of;
-use crate::bodies::{Trees, type_bodies};
+use crate::bodies::{check_bodies, type_bodies};
 use crate::invalid::Invalid;
 use crate::parts::type_parts;
 use sqlite_items::Items;
@@ -16,13 +16,13 @@ use std::alloc::Global;
 use typed_trees::{TypedFn, TypedModule};
 use wasm_ast::module::Module;
 
-/// The parts are typed, and then the bodies, which are kept or not.
-fn type_module(alloc: Global, m: &Module, trees: Trees) -> Result<Items<TypedFn>, Invalid>
+/// The parts are typed, and then the bodies, which are given with their types.
+fn type_module(alloc: Global, m: &Module) -> Result<Items<TypedFn>, Invalid>
     requires { Agrees m.now }
-    ensures { TellsOfBodies m.now trees result }
+    ensures { TellsOfBodies m.now result }
 {
     let spaces = type_parts(alloc, m)?;
-    type_bodies(alloc, &spaces, m, trees)
+    type_bodies(alloc, &spaces, m)
 }
 
 /// Whether a module is typed as 3.0 ("Modules" of chapter 3), and then the module with its types and without code that
@@ -38,12 +38,12 @@ pub fn validate(alloc: Global, m: &Module) -> Result<TypedModule, Invalid>
     // No other answer is right, want of memory aside.
     ensures only { (other : Result (Unit {0}) Invalid) → Settles m.now other → IsVerdict (verdict_of result) other }
 {
-    let fns = type_module(alloc, m, Trees::Kept)?;
+    let fns = type_module(alloc, m)?;
     let parts = parts_of(alloc, m)?;
     Ok(TypedModule::build(parts, fns))
 }
 
-/// The same verdict, for which no more than one typed body is kept at a time.
+/// The same verdict, for which nothing of a body is kept.
 pub fn check(alloc: Global, m: &Module) -> Result<(), Invalid>
     requires { Agrees m.now }
     // What the answer says of the module.
@@ -51,6 +51,6 @@ pub fn check(alloc: Global, m: &Module) -> Result<(), Invalid>
     // No other answer is right, want of memory aside.
     ensures only { (other : Result (Unit {0}) Invalid) → Settles m.now other → IsVerdict result other }
 {
-    type_module(alloc, m, Trees::Dropped)?;
-    Ok(())
+    let spaces = type_parts(alloc, m)?;
+    check_bodies(alloc, &spaces, m)
 }

@@ -24,13 +24,15 @@ pub enum Step {
     Binary(Width, Bin),
 }
 
-/// i32.add, i32.sub, i32.mul and i64.add.
+/// i32.add.
 pub const ADD: Step = Step::Binary(Width::W32, Bin::Add);
 
+/// i32.sub.
 pub const SUB: Step = Step::Binary(Width::W32, Bin::Sub);
 
 const MUL: Step = Step::Binary(Width::W32, Bin::Mul);
 
+/// i64.add.
 pub const ADD64: Step = Step::Binary(Width::W64, Bin::Add);
 
 /// i32.and, which stands in no constant expression.

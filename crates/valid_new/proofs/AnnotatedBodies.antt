@@ -1,19 +1,21 @@
 -- A body with its types.
-use Rattle.std.proofs.Common.{◌≡◌, Bool, true, false, ◌&&◌, List, [], ◌∷◌, ◌++◌, Some, refl, ap, sym, subst, ◌∙◌}
+use Rattle.std.proofs.Common.{◌≡◌, Bool, true, false, ◌&&◌, List, [], ◌∷◌, refl, ap, sym, subst, ◌∙◌}
 use Rattle.std.specs.List.{AllByRecursion, list_all}
 use Rattle.wasm_ast.specs.declared.module.ty.Ty.{Ty}
 use Rattle.wasm_ast.specs.declared.module.ty.FuncType.{FuncType}
 use Rattle.wasm_ast.specs.declared.module.code.Body.{Body as CodeBody}
+use Rattle.wasm_ast.specs.declared.module.code.Instr.{Instr}
 use Rattle.wasm_ast.specs.declared.module.parts.Module.{Module}
 use Rattle.typing_kit.specs.Matching.{known}
 use Rattle.typing_kit.specs.Typing.{TypedCode}
 use Rattle.typed_trees.specs.declared.node.Node.{Node}
 use Rattle.typed_trees.specs.Contexts.{Context, is_value_type}
 use Rattle.typed_trees.specs.Forms.{language}
-use Rattle.typed_trees.specs.Modules.{TypedBody, body_context, context}
+use Rattle.typed_trees.specs.Modules.{TypedBody, context}
 use Rattle.typed_trees.specs.Trees.{TypedNodes}
 use Rattle.valid_new.specs.Annotated.{Annotated}
 use Rattle.valid_new.specs.Bodies.{Body}
+use Rattle.valid_new.specs.Judged.{CodeTyped, Decided}
 use Rattle.valid_new.specs.Scopes.{inside}
 use Rattle.valid_new.proofs.Tops.{both_true}
 
@@ -46,3 +48,14 @@ module _ (m : Module) (t : FuncType) (body : CodeBody) where
         locals = copy;
         code = b.tree;
       }
+
+  -- the same of a body of which nothing is kept
+  pub body_decided : (c : Context) (locals : List Ty) (code : List Instr) (typed : Bool) → c ≡ context m → locals ≡ body.locals → code ≡ body.code → list_all is_value_type body.locals ≡ true → Decided typed (CodeTyped (inside c t locals) (t.results ∷ []) code [] t.results) → Decided typed (TypedBody m t body)
+  body_decided c locals code typed e is same values d = go typed
+      (subst (λ x. Decided typed (CodeTyped (inside x t body.locals) (t.results ∷ []) body.code [] t.results)) e
+      (subst (λ l. Decided typed (CodeTyped (inside c t l) (t.results ∷ []) body.code [] t.results)) is
+      (subst (λ l. Decided typed (CodeTyped (inside c t locals) (t.results ∷ []) l [] t.results)) same d)))
+    where
+      go : (b : Bool) → Decided b (CodeTyped (inside (context m) t body.locals) (t.results ∷ []) body.code [] t.results) → Decided b (TypedBody m t body)
+      go true d = record { locals = values_all body.locals values; code = d }
+      go false d = λ h. d h.code

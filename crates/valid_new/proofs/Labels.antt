@@ -1,5 +1,5 @@
 -- The labels of a br_table, one after another.
-use Rattle.std.proofs.Common.{◌≡◌, ℕ, ◌+◌, ◌<◌, List, [], ◌∷◌, ◌++◌, drop, length, get_or, Option, Some, None, slice_get, refl, ap, sym, subst, ◌∙◌, append_assoc}
+use Rattle.std.proofs.Common.{◌≡◌, ℕ, ◌+◌, ◌<◌, List, [], ◌∷◌, ◌++◌, drop, length, get_or, Option, Some, None, slice_get, refl, ap, sym, ◌∙◌, append_assoc}
 use Rattle.wasm_ast.specs.declared.module.ty.Ty.{Ty}
 use Rattle.typed_trees.specs.Forms.{labels_at, both_labels}
 use Rattle.valid_new.proofs.Matching.{drop_at}

@@ -10,3 +10,5 @@ pub mod Putting
 pub mod Reaching
 pub mod Through
 pub mod Tops
+pub mod Judging
+pub mod Remaining

@@ -1,5 +1,5 @@
 -- Turns of a loop over two lists of types.
-use Rattle.std.proofs.Common.{◌≡◌, ◌≢◌, ℕ, suc, ◌+◌, ◌<◌, Bool, true, false, ◌&&◌, List, [], ◌∷◌, ◌++◌, drop, length, get_or, refl, ap, sym, subst, ◌∙◌, drop-cons, add-one, arith}
+use Rattle.std.proofs.Common.{◌≡◌, ◌≢◌, ℕ, suc, ◌+◌, ◌<◌, Bool, true, false, ◌&&◌, List, [], ◌∷◌, ◌++◌, drop, length, get_or, refl, ap, sym, ◌∙◌, drop-cons, add-one, arith}
 use Rattle.wasm_ast.specs.declared.module.ty.Ty.{Ty}
 use Rattle.typed_trees.specs.Matching.{matches, all_match}
 

@@ -1,29 +1,26 @@
 -- What a step over a plan does to values on the stack, and which types a node has then.
-use Rattle.std.proofs.Common.{◌≡◌, ◌⊎◌, ℕ, Bool, true, false, cond, ◌&&◌, ◌==◌, List, [], ◌∷◌, ◌++◌, map, reverse, drop, length, Option, Some, None, refl, ap, sym, subst, ◌∙◌, append_assoc, arith}
+use Rattle.std.proofs.Common.{◌≡◌, Bool, true, false, cond, ◌&&◌, ◌==◌, List, [], ◌∷◌, ◌++◌, reverse, drop, length, Option, Some, None, refl, ap, sym, subst, ◌∙◌, append_assoc, arith}
 use Rattle.std.proofs.lemmas.List.{reverse-reverse, length-reverse}
 use Rattle.typing_kit.proofs.Lists.{reverse-cons}
 use Rattle.std.specs.List.{AllByRecursion, list_all}
 use Rattle.wasm_ast.specs.declared.module.ty.Ty.{Ty}
 use Rattle.wasm_ast.specs.declared.module.ty.Ty.TheVariants.{I32}
-use Rattle.wasm_ast.specs.declared.module.code.Instr.{Instr}
 use Rattle.typing_kit.specs.declared.kind.Kind.{Kind}
 use Rattle.typing_kit.specs.declared.kind.Kind.TheVariants.{Plain}
 use Rattle.typing_kit.specs.declared.operand.Operand.{Operand}
-use Rattle.typing_kit.specs.declared.operand.Operand.TheVariants.{Known, Bottom}
-use Rattle.typing_kit.specs.declared.plan.Plan.{Plan}
-use Rattle.typing_kit.specs.declared.plan.Plan.TheVariants as plans
+use Rattle.typing_kit.specs.declared.operand.Operand.TheVariants.{Known}
 use Rattle.typing_kit.specs.declared.plan.Met.{Met}
 use Rattle.typing_kit.specs.declared.plan.Met.TheVariants.{Untyped, Planned, One}
 use Rattle.typing_kit.specs.Form as forms
 use Rattle.typing_kit.specs.Leaf.{AllSub, FitsLeaf}
 use Rattle.typing_kit.specs.Matching.{known}
 use Rattle.typing_kit.specs.Stack.{Stack, fit}
-use Rattle.typing_kit.specs.Steps.{with_top, took, left, topmost, joined, is_of, agree, fit_label, flat_step, any_step, select_step, leave_step, table_step, stepped, IsLeaf}
+use Rattle.typing_kit.specs.Steps.{took, left, topmost, joined, is_of, agree, fit_label, flat_step, any_step, select_step, leave_step, table_step}
 use Rattle.typed_trees.specs.Contexts.{Context}
 use Rattle.typed_trees.specs.Forms.{InstrForm, language, is_of_kind}
 use Rattle.typed_trees.specs.Matching.{matches}
 use Rattle.typed_trees.proofs.Lawfulness.{matches_self}
-use Rattle.valid_new.specs.Bodies.{After, IsMet, type_met, leaf_types, any_types, select_types}
+use Rattle.valid_new.specs.Bodies.{After, IsMet, type_met, any_types, select_types}
 use Rattle.valid_new.proofs.Tops.{fitted_values, put_on, known_reverse, both_true}
 use Rattle.typed_trees.proofs.Lawfulness.{matches_equal}
 

@@ -1,38 +1,27 @@
 -- What typing an instruction by its plan answers.
-use Rattle.std.proofs.Common.{◌≡◌, Bool, true, false, List, [], ◌∷◌, ◌++◌, reverse, refl, ap, sym, subst, ◌∙◌}
+use Rattle.std.proofs.Common.{◌≡◌, true, false, List, [], ◌∷◌, ◌++◌}
 use Rattle.wasm_ast.specs.declared.module.ty.Ty.{Ty}
 use Rattle.wasm_ast.specs.declared.module.ty.Ty.TheVariants.{I32}
 use Rattle.wasm_ast.specs.declared.module.code.Instr.{Instr}
 use Rattle.typing_kit.specs.declared.plan.Plan.{Plan}
 use Rattle.typing_kit.specs.declared.plan.Met.{Met}
-use Rattle.typing_kit.specs.declared.plan.Met.TheVariants.{Untyped, Planned, One}
-use Rattle.typing_kit.specs.Matching.{known}
-use Rattle.typing_kit.specs.Progress.{Leads, Stuck}
+use Rattle.typing_kit.specs.Progress.{Leads}
 use Rattle.typing_kit.specs.Stack.{Stack}
 use Rattle.typing_kit.specs.Steps.{stepped, IsLeaf, IsPlanOf}
-use Rattle.typing_kit.proofs.Stepping as stepping
 use Rattle.typed_trees.specs.declared.node.Node.{Node}
 use Rattle.typed_trees.specs.Contexts.{Context}
 use Rattle.typed_trees.specs.Forms.{form, language, is_of_kind}
 use Rattle.typed_trees.specs.Matching.{matches}
-use Rattle.valid_new.specs.Bodies.{IsMet, Reached, Went, type_met, leaf_types}
+use Rattle.valid_new.specs.Bodies.{IsMet, Went, type_met, leaf_types}
 use Rattle.valid_new.specs.Nodes.{NodeIs}
+use Rattle.valid_new.proofs.Judging.{planned_leads}
 use Rattle.valid_new.proofs.Moving.{Moves}
 use Rattle.valid_new.proofs.Reaching.{form_by, leaves_by, planned_moves, leaf_reached}
-use Rattle.typed_trees.proofs.Lawfulness.{lawful}
 
 module _ (c : Context) (ls : List (List Ty)) (i : Instr) (plan : Plan Ty) (s t : Stack Ty) (met : Met Ty) (p : IsPlanOf plan (form c ls i)) (l : IsLeaf plan) (e : ◌≡◌ {A = Met Ty × Stack Ty} (met, t) (stepped matches is_of_kind I32 plan s)) where
-  leads_by : (m : Met Ty) → IsMet m → stepping.Went (language c) (lawful c) ls i m s t → Leads (language c) ls i s.dead s.top t.dead t.top
-  leads_by Untyped m w = absurd m
-  leads_by Planned m w = w
-  leads_by (One o) m w = w
-
-  pub planned_stuck : met ≡ Untyped → Stuck (language c) ls i s.dead s.top
-  planned_stuck u = subst (λ m. stepping.Went (language c) (lawful c) ls i m s t) u (stepping.step_went (language c) (lawful c) ls i plan s t met p l e)
-
   module _ (m : IsMet met) where
     leads : Leads (language c) ls i s.dead s.top t.dead t.top
-    leads = leads_by met m (stepping.step_went (language c) (lawful c) ls i plan s t met p l e)
+    leads = planned_leads c ls i plan s t met p l e m
 
     moves : Moves c (form_by plan) (leaf_types plan (type_met met)).0 (leaf_types plan (type_met met)).1 (leaves_by plan) s t
     moves = planned_moves c plan s t met l e m

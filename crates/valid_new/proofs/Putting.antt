@@ -1,31 +1,31 @@
 -- What typing an instruction that holds typed code answers.
-use Rattle.std.proofs.Common.{◌≡◌, Bool, true, false, cond, List, [], ◌∷◌, ◌++◌, reverse, drop, length, Option, Some, None, refl, ap, sym, subst, ◌∙◌}
+use Rattle.std.proofs.Common.{◌≡◌, Bool, true, false, List, [], ◌∷◌, ◌++◌, Option, Some, None, ap, sym, subst, ◌∙◌}
 use Rattle.std.specs.Borrow.{Bor}
 use Rattle.wasm_ast.specs.declared.module.ty.Ty.{Ty}
 use Rattle.wasm_ast.specs.declared.module.ty.Ty.TheVariants.{I32}
 use Rattle.wasm_ast.specs.declared.module.code.Instr.{Instr, out-Instr}
 use Rattle.typing_kit.specs.declared.operand.Operand.{Operand}
 use Rattle.typing_kit.specs.declared.plan.Met.{Met}
-use Rattle.typing_kit.specs.declared.plan.Met.TheVariants.{Untyped, Planned}
+use Rattle.typing_kit.specs.declared.plan.Met.TheVariants.{Untyped}
 use Rattle.typing_kit.specs.Form as forms
-use Rattle.typing_kit.specs.Matching.{known}
 use Rattle.typing_kit.specs.Progress.{Leads, Stuck}
-use Rattle.typing_kit.specs.Stack.{Stack, fit}
-use Rattle.typing_kit.specs.Steps.{took, flat_step, with_top}
-use Rattle.typing_kit.proofs.Forms.{Exactly, block_exactly, choice_exactly, exactly_leads, exactly_stuck, choice_stuck}
+use Rattle.typing_kit.specs.Stack.{Stack}
+use Rattle.typing_kit.specs.Steps.{flat_step, with_top}
+use Rattle.typing_kit.proofs.Forms.{Exactly, block_exactly, choice_exactly, choice_stuck}
 use Rattle.typed_trees.specs.declared.node.Node.{Node}
 use Rattle.typed_trees.specs.Contexts.{Context}
 use Rattle.typed_trees.specs.Forms.{form, language, is_of_kind}
 use Rattle.typed_trees.specs.Matching.{matches}
-use Rattle.typed_trees.specs.Trees.{with_bodies, erase, erased, leaves, reachable, reachable_code, EndsAs, TypedNode, TypedNodes, block, choice, head_of, takes_of, gives_of, first_of, second_of}
+use Rattle.typed_trees.specs.Trees.{with_bodies, erase, erased, leaves, reachable, reachable_code, EndsAs, TypedNode, TypedNodes, block, choice, head_of, gives_of, first_of}
 use Rattle.typed_trees.proofs.LeafTyped.{IsLeaving}
 use Rattle.typed_trees.proofs.Refilled.{refill}
 use Rattle.valid_new.specs.declared.nested.Nested.{Nested}
-use Rattle.valid_new.specs.Bodies.{After, AreArms, Body, BodyOr, IsMet, OneArm, Reached, TwoArms, Went}
+use Rattle.valid_new.specs.Bodies.{After, AreArms, Body, BodyOr, IsMet, Went}
 use Rattle.valid_new.specs.Nested.{nested_form}
 use Rattle.valid_new.specs.Nodes.{NodeIs}
 use Rattle.valid_new.proofs.Holding.{tree_is, head_form, head_leaves, first_held, both_held}
-use Rattle.valid_new.proofs.Moving.{by_test, flat_moves, Moves}
+use Rattle.valid_new.proofs.Judging.{flat_leads, flat_stuck}
+use Rattle.valid_new.proofs.Moving.{flat_moves, Moves}
 use Rattle.typed_trees.proofs.Lawfulness.{lawful}
 
 -- typed as one that takes these types and gives those, and a node of it is typed
@@ -37,17 +37,11 @@ pub record Exact (c : Context) (ls : List (List Ty)) (i : Instr) (takes gives : 
 
 module _ (c : Context) (ls : List (List Ty)) (i : Instr) (takes gives : List Ty) (a b : List Node) (x : Exact c ls i takes gives a b) (s t : Stack Ty) (met : Met Ty) (e : ◌≡◌ {A = Met Ty × Stack Ty} (met, t) (flat_step matches is_of_kind I32 takes gives s)) where
   pub exact_stuck : met ≡ Untyped → Stuck (language c) ls i s.dead s.top
-  exact_stuck u = go (fit matches s.dead s.top (reverse takes)) refl e
-    where
-      go : (y : Bool) → fit matches s.dead s.top (reverse takes) ≡ y → ◌≡◌ {A = Met Ty × Stack Ty} (met, t) (cond y (Planned, took (length takes) gives s) (Untyped, s)) → Stuck (language c) ls i s.dead s.top
-      go true f k = let planned : met ≡ Planned = ap (λ p. p.0) k in let no : ⊥ = cc in absurd no
-      go false f k = exactly_stuck (language c) (lawful c) ls i s.dead s.top takes gives x.exactly f
+  exact_stuck u = flat_stuck c ls i takes gives x.exactly s t met e u
 
   module _ (m : IsMet met) where
     exact_leads : Leads (language c) ls i s.dead s.top t.dead t.top
-    exact_leads =
-        let p = by_test t s (took (length takes) gives s) met Planned (fit matches s.dead s.top (reverse takes)) e m in
-        subst (λ u. Leads (language c) ls i s.dead s.top u.dead u.top) (sym p.1) (exactly_leads (language c) (lawful c) ls i s.dead s.top takes gives x.exactly p.0)
+    exact_leads = flat_leads c ls i takes gives x.exactly s t met e m
 
     moves : Moves c (forms.Flat takes gives) takes gives false s t
     moves = flat_moves c s t met takes gives e m

@@ -1,5 +1,5 @@
 -- The node of an instruction without code, where it is reached.
-use Rattle.std.proofs.Common.{◌≡◌, Bool, true, false, List, [], ◌∷◌, ◌++◌, map, reverse, Option, Some, None, refl, ap, sym, subst, ◌∙◌}
+use Rattle.std.proofs.Common.{◌≡◌, Bool, true, false, List, [], ◌++◌, map, reverse, Option, Some, None, refl, ap, sym, subst, ◌∙◌}
 use Rattle.std.specs.List.{list_all}
 use Rattle.wasm_ast.specs.declared.module.ty.Ty.{Ty}
 use Rattle.wasm_ast.specs.declared.module.ty.Ty.TheVariants.{I32}
@@ -19,13 +19,13 @@ use Rattle.typed_trees.specs.declared.node.Node.{Node}
 use Rattle.typed_trees.specs.Contexts.{Context, block_type}
 use Rattle.typed_trees.specs.Forms.{InstrForm, where_some, where_true, form, layer_form, language, is_of_kind, block_form, loop_form, if_form, try_form, clause_fits}
 use Rattle.typed_trees.specs.Matching.{matches}
-use Rattle.typed_trees.specs.Trees.{with_bodies, cut_bodies, cut, first_body, second_body, leaves, leaves_layer, reachable, erase, erased, TypedNode, plain, head_of, takes_of, gives_of, first_of, second_of}
+use Rattle.typed_trees.specs.Trees.{with_bodies, cut_bodies, cut, first_body, second_body, leaves, leaves_layer, reachable, erase, erased, plain, head_of, takes_of, gives_of, first_of, second_of}
 use Rattle.typed_trees.proofs.Erasing.{erase_out}
 use Rattle.typed_trees.proofs.LeafTyped.{IsLeaving}
 use Rattle.typed_trees.proofs.Leaving.{leaving_layer, IsStaying, staying_layer}
 use Rattle.valid_new.specs.Bodies.{After, IsMet, Reached, type_met, leaf_types}
 use Rattle.valid_new.specs.Nodes.{NodeIs}
-use Rattle.valid_new.proofs.Moving.{Kept, Moves, flat_moves, any_moves, select_moves, leave_moves, table_moves}
+use Rattle.valid_new.proofs.Moving.{Moves, flat_moves, any_moves, select_moves, leave_moves, table_moves}
 
 -- the form that a plan is of
 abbrev pub form_by : Plan Ty → InstrForm

@@ -1,26 +1,23 @@
 -- Typing code, one instruction after another.
-use Rattle.std.proofs.Common.{◌≡◌, ◌↔◌, ℕ, ◌+◌, ◌<◌, ◌≤◌, Bool, true, false, nat_le, ◌&&◌, List, [], ◌∷◌, ◌++◌, map, reverse, drop, length, get_or, Option, Some, None, refl, ap, sym, subst, ◌∙◌, append_assoc, append-nil, arith}
+use Rattle.std.proofs.Common.{◌≡◌, ℕ, ◌+◌, ◌<◌, ◌≤◌, Bool, true, false, nat_le, List, [], ◌∷◌, ◌++◌, reverse, drop, length, get_or, Option, Some, None, refl, ap, sym, subst, ◌∙◌, append_assoc, append-nil, arith}
 use Rattle.std.proofs.lemmas.List.{map-append, length-reverse, length-map, length-append, drop_all}
 use Rattle.wasm_ast.specs.declared.module.ty.Ty.{Ty}
-use Rattle.wasm_ast.specs.declared.module.code.Instr.{Instr, out-Instr, roll-Instr, out-roll-Instr}
-use Rattle.wasm_ast.specs.declared.module.code.Instr.TheOpen.{Instr-F}
+use Rattle.wasm_ast.specs.declared.module.code.Instr.{Instr, out-Instr, out-roll-Instr}
 use Rattle.typing_kit.specs.declared.operand.Operand.TheVariants.{Known}
 use Rattle.typing_kit.specs.Matching.{known}
-use Rattle.typing_kit.specs.Progress.{From, Leads, Stuck}
+use Rattle.typing_kit.specs.Progress.{Stuck}
 use Rattle.typing_kit.specs.Stack.{Stack, fit, fit_whole}
 use Rattle.typing_kit.specs.Typing.{TypedCode}
-use Rattle.typing_kit.proofs.Leading.{begun, ended}
 use Rattle.typed_trees.specs.declared.node.Node.{Node}
 use Rattle.typed_trees.specs.Contexts.{Context}
 use Rattle.typed_trees.specs.Forms.{language}
 use Rattle.typed_trees.specs.Matching.{matches}
-use Rattle.typed_trees.specs.Trees.{with_bodies, leaves, leaves_layer, unless_left, cut, reachable, reachable_code, erase, erased, EndsAs, TypedNodes, none, more, last, head_of, takes_of, gives_of, first_of, second_of}
+use Rattle.typed_trees.specs.Trees.{with_bodies, leaves, leaves_layer, unless_left, reachable, reachable_code, erase, erased, TypedNodes, none, more, last, head_of, gives_of, first_of, second_of}
 use Rattle.typed_trees.proofs.Erasing.{erase_out}
-use Rattle.valid_new.specs.Bodies.{After, Body, BodyOr, Reached, Went, WentOr}
+use Rattle.valid_new.specs.Bodies.{After, Body, Reached, Went, WentOr}
 use Rattle.valid_new.proofs.Holding.{leaves_refilled}
-use Rattle.valid_new.proofs.Matching.{drop_at}
+use Rattle.valid_new.proofs.Remaining.{Remains, at_place, remains_start, remains_more, remains_stuck, remains_fit, remains_unfit}
 use Rattle.valid_new.proofs.Tops.{fitted_values, both_true}
-use Rattle.typed_trees.proofs.Lawfulness.{lawful}
 
 leaves_erase : (n : Node) → leaves (erase n) ≡ leaves (head_of n)
 leaves_erase n =
@@ -36,7 +33,7 @@ pub record Alive (c : Context) (ls : List (List Ty)) (takes : List Ty) (stack : 
 
 -- after the front of the code only `rest` is left
 pub record Through (c : Context) (ls : List (List Ty)) (takes : List Ty) (code rest : List Instr) (stack : Stack Ty) (nodes : List Node) : Type 0 where
-  pub leads : (after : _) → From (language c) ls false (reverse (known takes)) code after ↔ From (language c) ls stack.dead stack.top rest after
+  pub leads : Remains c ls takes code rest stack
   pub alive : stack.dead ≡ false → Alive c ls takes stack nodes
   pub dead : stack.dead ≡ true → TypedNodes c ls nodes takes None
   pub tree : erased nodes ++ unless_left stack.dead (reachable_code rest) ≡ reachable_code code
@@ -45,10 +42,7 @@ module _ (c : Context) (ls : List (List Ty)) (takes : List Ty) where
   -- at the start
   pub through_start : (code : List Instr) (stack : Stack Ty) → stack.dead ≡ false → stack.top ≡ reverse (known takes) → Through c ls takes code code stack []
   through_start code stack d v = record {
-    leads = λ after. (
-      λ f. subst (λ b. From (language c) ls b stack.top code after) (sym d) (subst (λ l. From (language c) ls false l code after) (sym v) f),
-      λ f. subst (λ l. From (language c) ls false l code after) v (subst (λ b. From (language c) ls b stack.top code after) d f),
-    );
+    leads = remains_start c ls takes code stack d v;
     alive = λ e. record { values = takes; top = v; onwards = λ next end t. t };
     dead = λ e. (let no : ⊥ = cc in absurd no);
     tree = ap (λ b. unless_left b (reachable_code code)) d;
@@ -57,15 +51,11 @@ module _ (c : Context) (ls : List (List Ty)) (takes : List Ty) where
   module _ (code rest : List Instr) (i : Instr) (old new : Stack Ty) (nodes put : List Node) (so_far : Through c ls takes code (i ∷ rest) old nodes) where
     -- no more of the code is typed
     pub through_stuck : (gives : List Ty) → Stuck (language c) ls i old.dead old.top → TypedCode (language c) ls code (known takes) (known gives) → ⊥
-    through_stuck gives stuck typed =
-        stuck rest (known gives) ((so_far.leads (known gives)).0 ((begun (language c) (lawful c) ls code (known takes) (known gives)).0 typed))
+    through_stuck gives stuck typed = remains_stuck c ls takes code rest i old so_far.leads gives stuck typed
 
     module _ (went : Went c ls i old new nodes put) where
-      leads : (after : _) → From (language c) ls false (reverse (known takes)) code after ↔ From (language c) ls new.dead new.top rest after
-      leads after = (
-        λ f. (went.leads rest after).0 ((so_far.leads after).0 f),
-        λ f. (so_far.leads after).1 ((went.leads rest after).1 f),
-      )
+      leads : Remains c ls takes code rest new
+      leads = remains_more c ls takes code rest i old so_far.leads new went.leads
 
       unreached : old.dead ≡ true → Through c ls takes code rest new put
       unreached d =
@@ -137,14 +127,10 @@ module _ (c : Context) (ls : List (List Ty)) (takes : List Ty) where
     tree_whole = sym (append-nil (erased nodes)) ∙ ap (λ l. erased nodes ++ l) (sym (no_rest stack.dead)) ∙ whole.tree
 
     typed_whole : fit_whole matches stack.dead stack.top (reverse gives) ≡ true → TypedCode (language c) ls code (known takes) (known gives)
-    typed_whole f =
-        (begun (language c) (lawful c) ls code (known takes) (known gives)).1
-        ((whole.leads (known gives)).1 ((ended (language c) (lawful c) ls stack.dead stack.top gives).0 f))
+    typed_whole f = remains_fit c ls takes code stack gives whole.leads f
 
     pub through_unfit : fit_whole matches stack.dead stack.top (reverse gives) ≡ false → TypedCode (language c) ls code (known takes) (known gives) → ⊥
-    through_unfit f typed =
-        let yes = (ended (language c) (lawful c) ls stack.dead stack.top gives).1 ((whole.leads (known gives)).0 ((begun (language c) (lawful c) ls code (known takes) (known gives)).0 typed)) in
-        let no : ⊥ = cc in absurd no
+    through_unfit f typed = remains_unfit c ls takes code stack gives whole.leads f typed
 
     -- the values at the end are the results
     all_values : (values : List Ty) → stack.dead ≡ false → stack.top ≡ reverse (known values) → fit_whole matches stack.dead stack.top (reverse gives) ≡ true → values ≡ gives
@@ -178,10 +164,6 @@ module _ (c : Context) (ls : List (List Ty)) (takes : List Ty) where
               nodes_typed = subst (λ l. TypedNodes c ls l takes (Some a.values)) (append-nil nodes) (a.onwards [] (Some a.values) (none c ls a.values));
               ends = all_values a.values d a.top f;
             }
-
--- the instruction at a place of the code
-pub at_place : (code : List Instr) (k : ℕ) (i : Instr) → k < length code → i ≡ get_or code k i → drop k code ≡ i ∷ drop (k + 1) code
-at_place code k i h e = drop_at code k i h ∙ ap (λ x. x ∷ drop (k + 1) code) (sym e)
 
 module _ (c : Context) (ls : List (List Ty)) (takes : List Ty) (code : List Instr) (k : ℕ) (i : Instr) (h : k < length code) (e : i ≡ get_or code k i) (old new : Stack Ty) (nodes put : List Node) (so_far : Through c ls takes code (drop k code) old nodes) where
   here : Through c ls takes code (i ∷ drop (k + 1) code) old nodes

@@ -1,17 +1,12 @@
 -- Stacks of values: where types fit, they lie on top.
-use Rattle.std.proofs.Common.{◌≡◌, ℕ, Bool, true, false, ◌&&◌, List, [], ◌∷◌, ◌++◌, map, reverse, drop, length, Some, None, refl, ap, sym, subst, ◌∙◌}
+use Rattle.std.proofs.Common.{◌≡◌, Bool, true, false, ◌&&◌, List, [], ◌∷◌, ◌++◌, reverse, drop, length, refl, ap, sym, subst, ◌∙◌}
 use Rattle.std.proofs.Math.Seq.{drop-append_seam}
 use Rattle.std.proofs.lemmas.List.{length-reverse, reverse-append, length-map, reverse-reverse}
 use Rattle.wasm_ast.specs.declared.module.ty.Ty.{Ty}
-use Rattle.wasm_ast.specs.declared.module.ty.Ty.TheVariants.{I32, I64, F32, F64, V128, Func, Extern, Exn}
-use Rattle.wasm_ast.specs.declared.module.code.Instr.{Instr}
-use Rattle.typing_kit.specs.declared.operand.Operand.{Operand}
 use Rattle.typing_kit.specs.declared.operand.Operand.TheVariants.{Known}
 use Rattle.typing_kit.specs.Matching.{known}
-use Rattle.typing_kit.specs.Stack.{fit, meets}
+use Rattle.typing_kit.specs.Stack.{fit}
 use Rattle.typing_kit.proofs.Lists.{reverse-cons}
-use Rattle.typed_trees.specs.Contexts.{Context}
-use Rattle.typed_trees.specs.Forms.{language}
 use Rattle.typed_trees.specs.Matching.{matches}
 use Rattle.typed_trees.proofs.Lawfulness.{matches_equal}
 use Rattle.typed_trees.proofs.LeafTyped.{known_append}

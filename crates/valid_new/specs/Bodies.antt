@@ -1,14 +1,13 @@
 -- What typing of an instruction and of code answers.
-use Rattle.std.specs.Prelude.{◌≡◌, Bool, true, false, List, [], ◌∷◌, ◌++◌, map, reverse, Option, Some, None}
+use Rattle.std.specs.Prelude.{◌≡◌, Bool, true, false, List, [], ◌∷◌, ◌++◌, reverse, Option, Some, None}
 use Rattle.wasm_ast.specs.declared.module.ty.Ty.{Ty}
 use Rattle.wasm_ast.specs.declared.module.ty.Ty.TheVariants.{I32}
 use Rattle.wasm_ast.specs.declared.module.code.Instr.{Instr}
-use Rattle.typing_kit.specs.declared.operand.Operand.{Operand}
 use Rattle.typing_kit.specs.declared.operand.Operand.TheVariants.{Known}
 use Rattle.typing_kit.specs.declared.plan.Plan.{Plan}
 use Rattle.typing_kit.specs.declared.plan.Plan.TheVariants as plans
 use Rattle.typing_kit.specs.declared.plan.Met.{Met}
-use Rattle.typing_kit.specs.declared.plan.Met.TheVariants.{Untyped, Planned, One}
+use Rattle.typing_kit.specs.declared.plan.Met.TheVariants.{Untyped, One}
 use Rattle.typing_kit.specs.Matching.{known}
 use Rattle.typing_kit.specs.Progress.{Leads, Stuck}
 use Rattle.typing_kit.specs.Stack.{Stack}

@@ -4,3 +4,4 @@ pub mod Bodies
 pub mod Nested
 pub mod Nodes
 pub mod Scopes
+pub mod Judged

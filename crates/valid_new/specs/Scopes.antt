@@ -1,5 +1,5 @@
 -- The context that index spaces and a scope stand for.
-use Rattle.std.specs.Prelude.{List, [], ◌++◌, map, reverse, Option, Some, None, option_map}
+use Rattle.std.specs.Prelude.{List, [], ◌++◌, map, reverse, Some, None, option_map}
 use Rattle.std.specs.Borrow.{Bor}
 use Rattle.wasm_ast.specs.declared.module.ty.Ty.{Ty}
 use Rattle.wasm_ast.specs.declared.module.ty.FuncType.{FuncType}

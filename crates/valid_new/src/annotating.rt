@@ -132,7 +132,7 @@ fn annotate_code(
 }
 
 /// Whether each is the type of values.
-fn are_value_types(types: &[Ty]) -> bool
+pub fn are_value_types(types: &[Ty]) -> bool
     ensures { result ≡ list_all is_value_type types.now }
 {
     types.iter().all(|ty| is_value_type(*ty))

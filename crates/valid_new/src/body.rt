@@ -23,7 +23,7 @@ use typing_kit::{Met, Operands, Plan, fits_whole, step};
 use wasm_ast::module::{Instr, Ty};
 
 /// Whether the instruction is not typed over the operands that it met.
-fn is_untyped(met: Met<Ty>) -> bool
+pub fn is_untyped(met: Met<Ty>) -> bool
     ensures untyped { result ≡ true → met ≡ Met.Untyped }
     ensures typed { result ≡ false → IsMet met }
 {

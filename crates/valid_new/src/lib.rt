@@ -2,11 +2,14 @@
 //!
 //! `plans` says what each instruction does to the operands, by the form that it has in its context (`scope`); `body` types
 //! code, one instruction after another, and puts the nodes of what is reached behind one another; `annotating` types the
-//! body of a function. `specs/Annotated.antt` says what is answered.
+//! body of a function. `deciding` and `checking` say the same of code and of bodies, and keep nothing. `specs/Annotated.antt`
+//! and `specs/Judged.antt` say what is answered.
 #![tactic(auto)]
 
 mod annotating;
 mod body;
+mod checking;
+mod deciding;
 mod groups;
 mod nested;
 mod nodes;
@@ -19,6 +22,8 @@ mod widths;
 
 pub use annotating::{Fault, annotate, annotate_body, annotate_func};
 pub use body::type_code;
+pub use checking::is_func_typed;
+pub use deciding::is_code_typed;
 pub use scope::{Scope, Spaces};
 pub use spaces::spaces_of;
 pub use types::{is_reference_type, is_value_type, matches};

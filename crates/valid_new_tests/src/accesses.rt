@@ -96,6 +96,24 @@ fn above(alloc: Global, address: Ty, rest: &[Ty]) -> Result<Vec<Ty>, AllocError>
     Ok(takes)
 }
 
+/// Whether the access to this memory takes these types, with alignments to the natural one.
+fn is_exact_to_natural(
+    alloc: Global,
+    spaces: &Spaces<'_>,
+    row: &AccessRow,
+    memory: u32,
+    takes: &[Ty],
+) -> Result<bool, AllocError> {
+    let (access, natural, _, gives) = row;
+    for align in 0..natural.wrapping_add(1) {
+        let step = at(*access, memory, align, 8);
+        if !is_exact(alloc, spaces, &Tried { step, takes, gives })? {
+            return Ok(false);
+        }
+    }
+    Ok(true)
+}
+
 /// Whether the access to this memory takes an address of this type, with alignments to the natural one.
 fn is_access_exact(
     alloc: Global,
@@ -104,19 +122,8 @@ fn is_access_exact(
     memory: u32,
     address: Ty,
 ) -> Result<bool, AllocError> {
-    let (access, natural, rest, gives) = row;
-    let takes = above(alloc, address, rest)?;
-    for align in 0..natural.wrapping_add(1) {
-        let row = Tried {
-            step: at(*access, memory, align, 8),
-            takes: takes.as_slice(),
-            gives,
-        };
-        if !is_exact(alloc, spaces, row)? {
-            return Ok(false);
-        }
-    }
-    Ok(true)
+    let takes = above(alloc, address, row.2)?;
+    is_exact_to_natural(alloc, spaces, row, memory, takes.as_slice())
 }
 
 /// Whether no alignment past the natural one is typed, and none that is no exponent.
@@ -195,6 +202,7 @@ fn are_untyped(
     Ok(true)
 }
 
+/// Whether each access has its operands, alignments and offsets and no others, and none names a lane past the last.
 pub fn are_accesses_told(alloc: Global, spaces: &Spaces<'_>) -> Result<bool, AllocError> {
     Ok(
         are_accesses_exact(alloc, spaces, &INTEGERS)?

@@ -37,19 +37,29 @@ fn changed(alloc: Global, types: &[Ty], place: usize, ty: Ty) -> Result<Vec<Ty>,
     Ok(changed)
 }
 
+/// Whether the instruction is typed with another type at this place among the operands and then the results.
+fn is_typed_with(
+    alloc: Global,
+    spaces: &Spaces<'_>,
+    row: &Tried<'_>,
+    place: usize,
+    ty: Ty,
+) -> Result<bool, AllocError> {
+    let takes = changed(alloc, row.takes, place, ty)?;
+    let gives = changed(alloc, row.gives, place.wrapping_sub(row.takes.len()), ty)?;
+    is_typed_over(alloc, spaces, takes.as_slice(), &row.step, gives.as_slice())
+}
+
 /// Whether of all types that may stand at this place among the operands and then the results only the row's own will do.
 fn is_place_exact(
     alloc: Global,
     spaces: &Spaces<'_>,
-    row: Tried<'_>,
+    row: &Tried<'_>,
     place: usize,
     own: Ty,
 ) -> Result<bool, AllocError> {
     for ty in &TYPES {
-        let takes = changed(alloc, row.takes, place, *ty)?;
-        let gives = changed(alloc, row.gives, place.wrapping_sub(row.takes.len()), *ty)?;
-        let typed = is_typed_over(alloc, spaces, takes.as_slice(), row.step, gives.as_slice())?;
-        if typed != (*ty == own) {
+        if is_typed_with(alloc, spaces, row, place, *ty)? != (*ty == own) {
             return Ok(false);
         }
     }
@@ -60,7 +70,7 @@ fn is_place_exact(
 pub fn takes_exactly(
     alloc: Global,
     spaces: &Spaces<'_>,
-    row: Tried<'_>,
+    row: &Tried<'_>,
 ) -> Result<bool, AllocError> {
     for (place, own) in row.takes.iter().enumerate() {
         if !is_place_exact(alloc, spaces, row, place, *own)? {
@@ -68,15 +78,15 @@ pub fn takes_exactly(
         }
     }
     if let Some((_, fewer)) = row.takes.split_first() {
-        if is_typed_over(alloc, spaces, fewer, row.step, row.gives)? {
+        if is_typed_over(alloc, spaces, fewer, &row.step, row.gives)? {
             return Ok(false);
         }
     }
-    is_typed_over(alloc, spaces, row.takes, row.step, row.gives)
+    is_typed_over(alloc, spaces, row.takes, &row.step, row.gives)
 }
 
 /// Whether it leaves the results that it gives, and not one fewer or one of another type.
-fn gives_exactly(alloc: Global, spaces: &Spaces<'_>, row: Tried<'_>) -> Result<bool, AllocError> {
+fn gives_exactly(alloc: Global, spaces: &Spaces<'_>, row: &Tried<'_>) -> Result<bool, AllocError> {
     for (k, own) in row.gives.iter().enumerate() {
         let place = row.takes.len().wrapping_add(k);
         if !is_place_exact(alloc, spaces, row, place, *own)? {
@@ -84,20 +94,20 @@ fn gives_exactly(alloc: Global, spaces: &Spaces<'_>, row: Tried<'_>) -> Result<b
         }
     }
     match row.gives.split_last() {
-        Some((_, fewer)) => Ok(!is_typed_over(alloc, spaces, row.takes, row.step, fewer)?),
+        Some((_, fewer)) => Ok(!is_typed_over(alloc, spaces, row.takes, &row.step, fewer)?),
         None => Ok(true),
     }
 }
 
 /// Whether it leaves one value more than it gives.
-fn gives_more(alloc: Global, spaces: &Spaces<'_>, row: Tried<'_>) -> Result<bool, AllocError> {
+fn gives_more(alloc: Global, spaces: &Spaces<'_>, row: &Tried<'_>) -> Result<bool, AllocError> {
     let mut more = Vec::from_slice(alloc, row.gives)?;
     more.push(Ty::I32)?;
-    is_typed_over(alloc, spaces, row.takes, row.step, more.as_slice())
+    is_typed_over(alloc, spaces, row.takes, &row.step, more.as_slice())
 }
 
 /// Whether the instruction has this type and no other.
-pub fn is_exact(alloc: Global, spaces: &Spaces<'_>, row: Tried<'_>) -> Result<bool, AllocError> {
+pub fn is_exact(alloc: Global, spaces: &Spaces<'_>, row: &Tried<'_>) -> Result<bool, AllocError> {
     if !takes_exactly(alloc, spaces, row)? || !gives_exactly(alloc, spaces, row)? {
         return Ok(false);
     }
@@ -121,7 +131,7 @@ fn are_rows_exact(alloc: Global, spaces: &Spaces<'_>, rows: &[Row]) -> Result<bo
             takes,
             gives,
         };
-        if !is_exact(alloc, spaces, row)? {
+        if !is_exact(alloc, spaces, &row)? {
             return Ok(false);
         }
     }

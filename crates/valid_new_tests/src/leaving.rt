@@ -49,7 +49,7 @@ fn lets_lie(
     takes: &[Ty],
 ) -> Result<bool, AllocError> {
     let more = with_below(alloc, takes)?;
-    is_typed_over(alloc, spaces, more.as_slice(), step, &RESULTS)
+    is_typed_over(alloc, spaces, more.as_slice(), &step, &RESULTS)
 }
 
 /// Whether the instruction takes these types and no others, leaves what is asked of it, and lets operands lie below.
@@ -64,7 +64,7 @@ fn is_leaving(
         takes,
         gives: &RESULTS,
     };
-    Ok(takes_exactly(alloc, spaces, row)? && lets_lie(alloc, spaces, step, takes)?)
+    Ok(takes_exactly(alloc, spaces, &row)? && lets_lie(alloc, spaces, step, takes)?)
 }
 
 /// The same of each row.

@@ -135,7 +135,7 @@ fn is_code_exact(alloc: Global, spaces: &Spaces<'_>, code: u32) -> Result<bool, 
     let Some((step, takes, gives)) = row_of(op) else {
         return Ok(true);
     };
-    is_exact(alloc, spaces, Tried { step, takes, gives })
+    is_exact(alloc, spaces, &Tried { step, takes, gives })
 }
 
 /// The same of each code.

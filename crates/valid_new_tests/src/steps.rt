@@ -211,17 +211,23 @@ pub fn code_of(alloc: Global, steps: &[Step]) -> Result<Code, AllocError> {
     Ok(code)
 }
 
-/// Instructions without operands, of which rows are made.
+/// unreachable. This and the next ones take no operands, and rows are made of them.
 pub const UNREACHABLE: Step = Step::Plain(Plain::Unreachable);
 
+/// An i32.
 pub const I32_CONST: Step = Step::Pure(Op::I32Const(5));
 
+/// An i64.
 pub const I64_CONST: Step = Step::Pure(Op::I64Const(5));
 
+/// A vector.
 pub const V128_CONST: Step = Step::Pure(Op::V128Const(V(5)));
 
+/// The null reference to functions.
 pub const NULL_FUNC: Step = Step::Pure(Op::RefNull(Ty::Func));
 
+/// The null reference to what a host has.
 pub const NULL_EXTERN: Step = Step::Pure(Op::RefNull(Ty::Extern));
 
+/// The null reference to exceptions.
 pub const NULL_EXN: Step = Step::Pure(Op::RefNull(Ty::Exn));

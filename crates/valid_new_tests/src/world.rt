@@ -258,20 +258,37 @@ pub fn is_typed(
     is_typed_body(alloc, spaces, &[], code_of(alloc, code)?, results)
 }
 
-/// Whether the instruction, over operands of the first types alone, leaves values of the second types and no others.
-pub fn is_typed_over(
-    alloc: Global,
-    spaces: &Spaces<'_>,
-    operands: &[Ty],
-    step: Step,
-    results: &[Ty],
-) -> Result<bool, AllocError> {
-    let mut code = Items::new(alloc);
+/// Puts into the code what gets the declared locals of these types in order.
+fn put_operands(operands: &[Ty], code: &mut Code) -> Result<(), AllocError> {
     let mut local: u32 = 2;
     for _ in operands {
         code.push(Instr::LocalGet(local))?;
         local = local.wrapping_add(1);
     }
-    code.push(instr_of(alloc, step)?)?;
-    is_typed_body(alloc, spaces, operands, code, results)
+    Ok(())
+}
+
+/// The instruction behind what gets the declared locals of these types in order.
+fn code_over(alloc: Global, operands: &[Ty], step: &Step) -> Result<Code, AllocError> {
+    let mut code = Items::new(alloc);
+    put_operands(operands, &mut code)?;
+    code.push(instr_of(alloc, *step)?)?;
+    Ok(code)
+}
+
+/// Whether the instruction, over operands of the first types alone, leaves values of the second types and no others.
+pub fn is_typed_over(
+    alloc: Global,
+    spaces: &Spaces<'_>,
+    operands: &[Ty],
+    step: &Step,
+    results: &[Ty],
+) -> Result<bool, AllocError> {
+    is_typed_body(
+        alloc,
+        spaces,
+        operands,
+        code_over(alloc, operands, step)?,
+        results,
+    )
 }

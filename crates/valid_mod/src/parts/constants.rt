@@ -7,12 +7,12 @@ ghost use Rattle.typing_kit.specs.Typing.{TypedCode};
 ghost use Rattle.typed_trees.specs.Constants.{is_constant, is_constant_binary, is_constant_op, is_fixed, TypedConstant};
 ghost use Rattle.typed_trees.specs.Forms.{language};
 ghost use Rattle.valid_new.specs.Scopes.{spaces_context};
-ghost use Rattle.valid_mod.specs.Searches.{Decided};
+ghost use Rattle.valid_new.specs.Judged.{Decided};
 
 use num_core::operators::Bin;
 use std::alloc::{AllocError, Global};
 use typing_kit::Operands;
-use valid_new::{Scope, Spaces, type_code};
+use valid_new::{Scope, Spaces, is_code_typed};
 use wasm_ast::module::{Code, Instr, Op, Ty};
 
 /// Whether the operator may stand in a constant expression.
@@ -83,8 +83,7 @@ fn leaves_value(
     let mut labels = Vec::new(alloc);
     let mut operands = Operands::new(alloc);
     let gives = [ty];
-    let found = type_code(alloc, scope, &mut labels, &mut operands, &[], &gives, code)?;
-    Ok(found.is_some())
+    is_code_typed(alloc, scope, &mut labels, &mut operands, &[], &gives, code)
 }
 
 /// Whether the code is a constant expression of the type among these index spaces ("Constant Expressions" of chapter 3).

@@ -5,7 +5,8 @@ ghost use Rattle.typed_trees.specs.Contexts.{func_type};
 ghost use Rattle.typed_trees.specs.Modules.{context, TypedDesc, TypedStart, TypedStartFunc};
 ghost use Rattle.valid_new.specs.Scopes.{spaces_context};
 ghost use Rattle.valid_mod.specs.Parts.{Exports, PartTyped};
-ghost use Rattle.valid_mod.specs.Searches.{Decided, Finds};
+ghost use Rattle.valid_new.specs.Judged.{Decided};
+ghost use Rattle.valid_mod.specs.Searches.{Finds};
 
 use crate::parts::types::is_nothing;
 use std::alloc::{AllocError, Global};

@@ -6,7 +6,8 @@ ghost use Rattle.typed_trees.specs.declared.global_type.GlobalType.{GlobalType a
 ghost use Rattle.typed_trees.specs.Modules.{all_globals, early_context, global_import, imported_of, TypedGlobal};
 ghost use Rattle.valid_new.specs.Scopes.{spaces_context};
 ghost use Rattle.valid_mod.specs.Parts.{Globals, PartTyped};
-ghost use Rattle.valid_mod.specs.Searches.{Decided, Finds};
+ghost use Rattle.valid_new.specs.Judged.{Decided};
+ghost use Rattle.valid_mod.specs.Searches.{Finds};
 
 use crate::parts::constants::is_typed_constant;
 use std::alloc::{AllocError, Global};

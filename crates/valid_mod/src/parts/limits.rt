@@ -4,7 +4,7 @@ ghost use Rattle.std.specs.Prelude.{◌≡◌, IfOk};
 ghost use Rattle.typed_trees.specs.Modules.{early_context, global_import, imported_of, page_bound, TypedInitialiser, TypedLimits, TypedMemory, TypedTable, TypedTableType};
 ghost use Rattle.valid_new.specs.Scopes.{spaces_context};
 ghost use Rattle.wasm_ast.specs.declared.module.parts.Module.{Module as Source};
-ghost use Rattle.valid_mod.specs.Searches.{Decided};
+ghost use Rattle.valid_new.specs.Judged.{Decided};
 
 use crate::parts::constants::is_typed_constant;
 use crate::search::PartTest;

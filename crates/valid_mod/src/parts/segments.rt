@@ -5,7 +5,7 @@ ghost use Rattle.wasm_ast.specs.declared.module.parts.Module.{Module as Source};
 ghost use Rattle.typed_trees.specs.Contexts.{address_type};
 ghost use Rattle.typed_trees.specs.Modules.{context, TypedAddress, TypedElement, TypedElementMode, TypedSegment, TypedTarget};
 ghost use Rattle.valid_new.specs.Scopes.{spaces_context};
-ghost use Rattle.valid_mod.specs.Searches.{Decided};
+ghost use Rattle.valid_new.specs.Judged.{Decided};
 
 use crate::parts::constants::{are_typed_constants, is_typed_constant};
 use crate::search::PartTest;

@@ -4,7 +4,7 @@ ghost use Rattle.std.specs.Prelude.{◌≡◌, ◌<◌, [], length, option_map, 
 ghost use Rattle.std.specs.List.{AllByRecursion, list_all};
 ghost use Rattle.typed_trees.specs.Contexts.{is_value_type};
 ghost use Rattle.typed_trees.specs.Modules.{TypedFuncType, TypedImport, TypedTag};
-ghost use Rattle.valid_mod.specs.Searches.{Decided};
+ghost use Rattle.valid_new.specs.Judged.{Decided};
 
 use crate::parts::limits::{memory_is_typed, table_type_is_typed};
 use crate::search::PartTest;

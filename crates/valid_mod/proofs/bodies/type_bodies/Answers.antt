@@ -10,7 +10,7 @@ loop-place-preserved c =
     let found = found_here m c.loop-place.place c.in-Ok.f c.in_ok-typed.field-0 c.in-Some.typed place c.in-Some.is c.in_ok-typed.ensures in
     record {
       typed = below_more _ _ c.loop-place.invariant.typed (body_typed m c.loop-place.place c.in-Some.typed found);
-      kept = more_kept m c.args.trees c.loop-place.place c.loop-place.fns _ c.in-Some.typed c.loop-place.invariant.kept found c.in_ok-keep.ensures;
+      kept = more_kept m c.loop-place.place c.loop-place.fns _ c.in-Some.typed c.loop-place.invariant.kept found c.in_ok-push.ensures.ok;
     }
 
 pub returns : goal.returns
@@ -19,5 +19,5 @@ returns c =
     let last : c.loop-place.place ≡ length m.codes = omega (arith, c.len-place-end.ensures, c.loop-place.auto.place-end, c.loop-place-test.false) in
     record {
       typed = typed_from m c.requires.counts c.requires.parts (λ k l. c.loop-place.invariant.typed k (omega arith));
-      kept = kept_at m c.args.trees c.loop-place.place (length m.codes) c.loop-place.fns last c.loop-place.invariant.kept;
+      kept = kept_at m c.loop-place.place (length m.codes) c.loop-place.fns last c.loop-place.invariant.kept;
     }

@@ -1,5 +1,6 @@
 use Rattle.std.proofs.Common.{refl, sym, ◌∙◌}
-use Rattle.valid_new.proofs.Planned.{planned_stuck, planned_reached, planned_unreached}
+use Rattle.valid_new.proofs.Judging.{planned_stuck}
+use Rattle.valid_new.proofs.Planned.{planned_reached, planned_unreached}
 use Rattle.valid_new.proofs.body.type_planned.Goals as goal
 
 pub returns-then-is_untyped : goal.returns-then-is_untyped

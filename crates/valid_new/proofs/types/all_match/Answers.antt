@@ -1,5 +1,4 @@
-use Rattle.std.proofs.Common.{arith}
-use Rattle.valid_new.proofs.Matching.{unequal, ends, goes_on}
+use Rattle.valid_new.proofs.Matching.{unequal}
 use Rattle.valid_new.proofs.types.all_match.Goals as goal
 
 pub returns-then-given-wanted : goal.returns-then-given-wanted

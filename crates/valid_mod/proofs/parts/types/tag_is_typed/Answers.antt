@@ -1,5 +1,5 @@
 use Rattle.std.proofs.Common.{◌≡◌, [], subst}
-use Rattle.valid_mod.specs.Searches.{Decided}
+use Rattle.valid_new.specs.Judged.{Decided}
 use Rattle.valid_mod.proofs.Deciding.{tag_typed, tag_untyped}
 use Rattle.valid_mod.proofs.parts.types.tag_is_typed.Goals as goal
 

@@ -1,0 +1,6 @@
+use Rattle.std.proofs.Common.{ℕ, ◌<◌}
+use Rattle.valid_mod.specs.Parts.{BodyTyped}
+use Rattle.valid_mod.proofs.bodies.check_bodies.Given as goal
+
+abbrev pub invariant-loop-place : goal.invariant-loop-place
+invariant-loop-place l = (k : ℕ) → k < l.place → BodyTyped l.m k
