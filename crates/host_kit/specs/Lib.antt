@@ -1,2 +1,14 @@
 pub mod Trace
 pub mod Scripts
+pub mod Texts
+pub mod Faults
+pub mod Forms
+pub mod ScriptForms
+pub mod ScriptTexts
+pub mod Pairwise
+pub mod Offered
+pub mod Fits
+pub mod FitTests
+pub mod Offered1
+pub mod Fits1
+pub mod FitTests1

@@ -3,6 +3,8 @@
 use Rattle.std.proofs.Common.{◌≡◌, ℕ, zero, suc, ◌+◌, ◌-◌, ◌<◌, ◌^◌, List, [], ◌∷◌, map, length, Bool, true, false, cond, Some, None, refl, subst, ap, ◌∙◌, arith}
 use Rattle.std.specs.Prelude.{bytes_eq, option_map}
 use Rattle.std.specs.List.{AllByRecursion, flat_map}
+use Rattle.host_kit.specs.Offered1.{exported1}
+use Rattle.host_kit.specs.Offered.{exported, func_type}
 use Rattle.host_kit.specs.declared.event.Event.TheVariants as events
 use Rattle.host_kit.specs.declared.script.Act.TheVariants.{Set, Peek, Poke}
 use Rattle.host_kit.specs.declared.script.Item.{Item}
@@ -26,14 +28,11 @@ use Rattle.evaluation_kit.specs.Control.{leave_body}
 use Rattle.evaluation_kit.specs.Languages.{func, func_within}
 use Rattle.evaluation_kit.specs.Tasks.{Status, Task, Enter, shown, task, tasks}
 use Rattle.meaning_new.specs.declared.val.Val.TheVariants as vals
-use Rattle.meaning_new.specs.Fits.{ValueHasType, ValuesHaveTypes, ItemFits}
-use Rattle.meaning_new.specs.Forms.{type_of_func}
-use Rattle.meaning_new.specs.Host.{export_of}
+use Rattle.host_kit.specs.Fits.{ValueHasType, ValuesHaveTypes, ItemFits}
 use Rattle.meaning_new.specs.Language.{language}
 use Rattle.meaning_new.specs.Runs.{answered, call_task, item_task, item_tasks}
 use Rattle.meaning_new.specs.Store.{State, tell}
 use Rattle.meaning_core1.specs.declared.val1.Val1.TheVariants as vals1
-use Rattle.meaning_core1.specs.Hosting.{export1}
 use Rattle.meaning_core1.specs.Language.{language1}
 use Rattle.meaning_core1.specs.Runs.{call_status, call1_task, item1, items1}
 use Rattle.meaning_core1.specs.Store.{State1, show}
@@ -152,26 +151,26 @@ module _ (name : List ℕ) (code : List Instr) where
       record { called = called; argument = i.0; is = ap (λ u. Call called (u ∷ [])) i.1; finds = finds; fits = i.2 }
 
   -- the only function has the type
-  core_typed : (x : ℕ) (type : FuncType) → exports.Func x ≡ exports.Func 0 → type_of_func (input name code) x ≡ Some type → type ≡ core_type
+  core_typed : (x : ℕ) (type : FuncType) → exports.Func x ≡ exports.Func 0 → func_type (input name code) x ≡ Some type → type ≡ core_type
   core_typed x type e typed =
       let zero_is : x ≡ 0 = cc in
-      let found : type_of_func (input name code) 0 ≡ Some type = subst (λ y. type_of_func (input name code) y ≡ Some type) zero_is typed in
+      let found : func_type (input name code) 0 ≡ Some type = subst (λ y. func_type (input name code) y ≡ Some type) zero_is typed in
       cc
 
   pub is_call : (item : Item) → ItemFits (input name code) item → IsCall name item
   is_call (Call called arguments) h =
-      let found = found_desc (bytes_eq name called) name (exports.Func h.func) h.exported in
+      let found = found_desc (bytes_eq name called) name (exports.Func h.func) h.offered in
       call_with called arguments found.0
       (subst (λ t. ValuesHaveTypes (input name code) arguments t.params) (core_typed h.func h.type found.1 h.typed) h.params)
-  is_call (Host (Set called v)) h = absurd (apart_global h.index (found_desc (bytes_eq name called) name _ h.exported).1)
-  is_call (Host (Peek called at count)) h = absurd (apart_memory h.index (found_desc (bytes_eq name called) name _ h.exported).1)
-  is_call (Host (Poke called at bytes)) h = absurd (apart_memory h.0.index (found_desc (bytes_eq name called) name _ h.0.exported).1)
+  is_call (Host (Set called v)) h = absurd (apart_global h.index (found_desc (bytes_eq name called) name _ h.offered).1)
+  is_call (Host (Peek called at count)) h = absurd (apart_memory h.index (found_desc (bytes_eq name called) name _ h.offered).1)
+  is_call (Host (Poke called at bytes)) h = absurd (apart_memory h.0.index (found_desc (bytes_eq name called) name _ h.0.offered).1)
 
   -- the name gives the function, in both modules
-  pub finds_function : (called : List ℕ) → bytes_eq name called ≡ true → export_of (input name code) called ≡ Some (exports.Func 0)
+  pub finds_function : (called : List ℕ) → bytes_eq name called ≡ true → exported (input name code) called ≡ Some (exports.Func 0)
   finds_function called e = ap (λ b. option_map (λ (x : Export). x.desc) (cond b (Some (the_export name)) None)) e
 
-  pub finds_lowered : (called : List ℕ) → bytes_eq name called ≡ true → export1 (output name code) called ≡ Some (exports1.Func 0)
+  pub finds_lowered : (called : List ℕ) → bytes_eq name called ≡ true → exported1 (output name code) called ≡ Some (exports1.Func 0)
   finds_lowered called e = ap (λ b. option_map (λ (x : Export1). x.desc) (cond b (Some (the_export1 name)) None)) e
 
   source_task : (i : ℕ) (item : Item) (c : IsCall name item) → item_task (input name code) i item ≡ Enter 0 (vals.I32 c.argument ∷ []) (answered (input name code) i)

@@ -1,7 +1,6 @@
 -- What a command has made, handed out.
 use Rattle.std.proofs.Common.{◌≡◌, ℕ, List, [], ◌∷◌, Bool, true, false, ap, sym, ◌∙◌, subst}
 use Rattle.std.specs.Prelude.{Option, codes, bytes_eq}
-use Rattle.std.specs.Io.KnownBytes.{Appends}
 use Rattle.tool_files.specs.Held.{Contents, Sets, WhereTold}
 use Rattle.tool_files.proofs.HeldLemmas.{where_told}
 use Rattle.lower_tool.specs.Lowering.{Lowers, default_captures}

@@ -1,11 +1,10 @@
 -- A file has one verdict for each command: what reading, the profile and typing tell of it decides the step that refuses it.
 use Rattle.std.proofs.Common.{◌≡◌, ℕ, ◌<◌, ◌≤◌, List, length, refl, sym, ap, ◌∙◌, subst, inl, inr}
 use Rattle.std.proofs.lemmas.Bool.{cases_lt}
-use Rattle.std.specs.Prelude.{true, false, cond, Option, Some, None, Result, Ok, Err, OnOk, IfErr, option_map}
+use Rattle.std.specs.Prelude.{cond, Option, Some, None, Result, Ok, Err, OnOk, IfErr, option_map}
 use Rattle.wasm_ast.specs.declared.module.parts.Module.{Module}
 use Rattle.core1_ast.specs.Floats.{has_floats}
 use Rattle.core1_ast.specs.declared.module.parts.Module1.{Module1}
-use Rattle.wasm_frame.specs.declared.sections.Version.{Version}
 use Rattle.wasm_frame.specs.declared.sections.Version.TheVariants.{One, Three}
 use Rattle.module_reading.specs.Reads.{Reads}
 use Rattle.module_reading.specs.Limits.{file_limit}

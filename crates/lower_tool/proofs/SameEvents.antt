@@ -14,9 +14,9 @@ use Rattle.host_kit.specs.declared.value.Value.{Value}
 use Rattle.wasm_ast.specs.declared.module.code.Instr.{Instr}
 use Rattle.wasm_ast.specs.declared.module.parts.Module.{Module}
 use Rattle.wasm_ast.specs.declared.module.ty.Ty.TheVariants as types
-use Rattle.meaning_new.specs.Fits.{ValuesHaveTypes, RepliesFit, ItemFits, ScriptFits}
+use Rattle.host_kit.specs.Fits.{ValuesHaveTypes, RepliesFit, ItemFits, ScriptFits}
 use Rattle.meaning_new.specs.Runs.{trace}
-use Rattle.meaning_core1.specs.Fits.{ValuesHaveTypes1, RepliesFit1, ItemFits1, ScriptFits1}
+use Rattle.host_kit.specs.Fits1.{ValuesHaveTypes1, RepliesFit1, ItemFits1, ScriptFits1}
 use Rattle.lower_tool.specs.Constants.{ConstantFits}
 use Rattle.lower_tool.specs.Core.{IsCore, core_type}
 use Rattle.lower_tool.specs.Headline.{has_pages, safe, unmapped, OutToIn, SameUnder, Same}
@@ -62,7 +62,7 @@ module _ (name : List ℕ) (code : List Instr) where
   call_fits : (item : Item) → IsCall name item → ItemFits1 (output name code) (map_item item)
   call_fits item c =
       subst (λ i. ItemFits1 (output name code) (map_item i)) (sym c.is)
-      (record { func = 0; type = lowered_type core_type; exported = finds_lowered name code c.called c.finds; typed = refl; params = (c.fits, tt) })
+      (record { func = 0; type = lowered_type core_type; offered = finds_lowered name code c.called c.finds; typed = refl; params = (c.fits, tt) })
 
   items_fit : (items : List Item) → AllByRecursion (ItemFits (input name code)) items → AllByRecursion (ItemFits1 (output name code)) (map map_item items)
   items_fit [] h = tt

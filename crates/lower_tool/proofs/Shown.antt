@@ -17,7 +17,7 @@ use Rattle.outcome_kit.proofs.Outcomes.{place_of-after}
 use Rattle.evaluation_kit.specs.Configurations.{World}
 use Rattle.evaluation_kit.specs.Languages.{func}
 use Rattle.evaluation_kit.specs.Tasks.{Status, tasks}
-use Rattle.meaning_new.specs.Fits.{ItemFits}
+use Rattle.host_kit.specs.Fits.{ItemFits}
 use Rattle.meaning_new.specs.Instances.{new_state}
 use Rattle.meaning_new.specs.Language.{language}
 use Rattle.meaning_new.specs.Runs.{item_tasks, end_within, trace, depth}

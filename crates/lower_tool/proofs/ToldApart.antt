@@ -15,7 +15,7 @@ use Rattle.outcome_kit.specs.Code.{stands}
 use Rattle.evaluation_kit.specs.Configurations.{World}
 use Rattle.evaluation_kit.specs.Languages.{func}
 use Rattle.evaluation_kit.specs.Tasks.{Status}
-use Rattle.meaning_new.specs.Fits.{ItemFits, ScriptFits}
+use Rattle.host_kit.specs.Fits.{ItemFits, ScriptFits}
 use Rattle.meaning_new.specs.Instances.{new_state}
 use Rattle.meaning_new.specs.Runs.{trace}
 use Rattle.meaning_new.specs.Store.{State, tell}
@@ -51,7 +51,7 @@ call : IsCall name_f (Call name_f (values.I32 128 ∷ []))
 call = record { called = name_f; argument = 128; is = refl; finds = refl; fits = lit< tt }
 
 fits : ItemFits extending (Call name_f (values.I32 128 ∷ []))
-fits = record { func = 0; type = _; exported = refl; typed = refl; params = (lit< tt, tt) }
+fits = record { func = 0; type = _; offered = refl; typed = refl; params = (lit< tt, tt) }
 
 pub call_fits : ScriptFits extending one_call
 call_fits = record { globals = tt; replies = tt; items = (fits, tt) }

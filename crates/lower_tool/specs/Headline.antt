@@ -9,9 +9,9 @@ use Rattle.host_kit.specs.declared.script.Script.{Script}
 use Rattle.wasm_ast.specs.Region.{moves_tables, fixed_pages, pages_for_entries}
 use Rattle.wasm_ast.specs.Spaces.{memory_count}
 use Rattle.wasm_ast.specs.declared.module.parts.Module.{Module}
-use Rattle.meaning_new.specs.Fits.{ScriptFits}
+use Rattle.host_kit.specs.Fits.{ScriptFits}
 use Rattle.meaning_new.specs.Runs.{trace, depth}
-use Rattle.meaning_core1.specs.Fits.{ScriptFits1}
+use Rattle.host_kit.specs.Fits1.{ScriptFits1}
 use Rattle.meaning_core1.specs.Runs.{trace1, depth1}
 use Rattle.core1_ast.specs.declared.module.parts.Module1.{Module1}
 use Rattle.lower_tool.specs.Mapping.{map_script}

@@ -12,7 +12,7 @@ use Rattle.core1_ast.specs.declared.module.ty.Ty1.TheVariants.{I32, I64}
 use Rattle.evaluation_kit.specs.Leaves.{top, below}
 use Rattle.meaning_new.specs.Forms.{type_of_tag}
 use Rattle.meaning_new.specs.Interface.{Interface, interface}
-use Rattle.meaning_core1.specs.Fits.{ValuesHaveTypes1}
+use Rattle.host_kit.specs.Fits1.{ValuesHaveTypes1}
 use Rattle.lower_tool.specs.Flattening.{flat}
 use Rattle.lower_tool.specs.Marks.{Marks, exception_count, payload_count, result_count, exported_globals, marks_of}
 use Rattle.lower_tool.specs.Unmapping.{imported_type, called_type, params_of, unmap_event}
@@ -51,6 +51,7 @@ abbrev pub ResultsFit : Module → List Value → Marks → FuncType → Type 0
 ResultsFit m results marks type =
     ValuesHaveTypes1 results (take 1 (flat type.results)) × MarksFit m type marks.exception marks
 
+-- an event that a lowered module may show: exceptions and full stores are shown by marks alone
 abbrev pub FitsEvent : Module → Script → Event → Type 0
 FitsEvent m s (events.HostCall j arguments globals) =
     CallFits m (imported_type m j) globals (λ type. ValuesHaveTypes1 arguments (flat type.params))

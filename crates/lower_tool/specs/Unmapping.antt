@@ -1,5 +1,6 @@
 -- How the events of a lowered module become events of the 3.0 module: this project's own mapping, event by event.
 use Rattle.std.specs.Prelude.{ℕ, zero, suc, List, [], ◌∷◌, ◌++◌, map, filter_map, slice_get, Option, Some, None, option_and_then}
+use Rattle.host_kit.specs.Offered.{exported, func_type}
 use Rattle.host_kit.specs.Trace.{Seen, Told, Answered}
 use Rattle.host_kit.specs.declared.event.Event.{Event}
 use Rattle.host_kit.specs.declared.event.Event.TheVariants as events
@@ -16,8 +17,7 @@ use Rattle.wasm_ast.specs.declared.module.ty.FuncType.{FuncType}
 use Rattle.wasm_ast.specs.declared.module.ty.Ty.{Ty}
 use Rattle.wasm_ast.specs.declared.module.ty.Ty.TheVariants as types
 use Rattle.evaluation_kit.specs.Leaves.{top, below}
-use Rattle.meaning_new.specs.Forms.{type_of_func, type_of_tag}
-use Rattle.meaning_new.specs.Host.{export_of}
+use Rattle.meaning_new.specs.Forms.{type_of_tag}
 use Rattle.lower_tool.specs.Flattening.{word}
 use Rattle.lower_tool.specs.Marks.{Marks, own_globals, marks_of}
 
@@ -27,12 +27,12 @@ imported_type m j = option_and_then (slice_get m.types) (slice_get (filter_map (
 
 -- the type of what a module exports, where that is a function
 abbrev pub exported_type : Module → ExportDesc → Option FuncType
-exported_type m (Func x) = type_of_func m x
+exported_type m (Func x) = func_type m x
 exported_type m _ = None
 
 -- the type of the function that an item calls
 abbrev pub item_type : Module → Item → Option FuncType
-item_type m (Call name arguments) = option_and_then (exported_type m) (export_of m name)
+item_type m (Call name arguments) = option_and_then (exported_type m) (exported m name)
 item_type m (Host act) = None
 
 -- the type of the function that the item at a place of the script calls
@@ -69,10 +69,10 @@ abbrev pub unmap_return : Module → Option FuncType → ℕ → List ℕ → Li
 unmap_return m type i words own zero marks = events.Returned i (grouped (results_of type) (words ++ marks.further)) own
 unmap_return m type i words own (suc tag) marks = events.Uncaught i tag (grouped (params_of (type_of_tag m tag)) marks.payload) own
 
--- a trap that stands for a full store of captured exceptions, or for itself
+-- a trap that stands for a full store of captured exceptions, where the mark is 1, or for itself
 abbrev pub unmap_trap : ℕ → List Value → ℕ → Event
-unmap_trap i own zero = events.Trapped i own
-unmap_trap i own (suc full) = events.Full
+unmap_trap i own (suc zero) = events.Full
+unmap_trap i own full = events.Trapped i own
 
 -- arguments and results are grouped by the input's types, and only the input's own globals stay
 abbrev pub unmap_event : Module → Script → Event → Event

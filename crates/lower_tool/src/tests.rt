@@ -161,14 +161,8 @@ fn is_refused(alloc: Global, bytes: Vec<u8>, printed: &str) -> Result<bool, Allo
 #[test]
 fn one_changed_byte_of_the_example(rt: HostRuntime) -> Result<(), Fail> {
     let alloc = rt.alloc();
-    // The place of a byte, and what stands there: another head, a section twice, a section of another kind, the size of
-    // a body that then ends too late, a body without its end, a result of type i64, i64.extend8_s and i32.clz.
-    let rows: [(usize, u8, &str); 8] = [
-        (4, 0x02, "refused: frame: bad head\n"),
-        (16, 0x01, "refused: frame: bad order\n"),
-        (16, 0x04, "refused: section 1\n"),
-        (30, 0x06, "refused: section 3\n"),
-        (35, 0x01, "refused: body 0\n"),
+    // The place of a byte, and what stands there: a result of type i64, i64.extend8_s and i32.clz.
+    let rows: [(usize, u8, &str); 3] = [
         (15, 0x7E, "refused: outside: not built core\n"),
         (34, 0xC2, "refused: outside: not built core\n"),
         (34, 0x67, "refused: outside: not built core\n"),
@@ -178,8 +172,35 @@ fn one_changed_byte_of_the_example(rt: HostRuntime) -> Result<(), Fail> {
         bytes[place] = byte;
         assert!(rt; is_refused(alloc, bytes.to_vec(alloc)?, printed)?);
     }
-    let cut = EXTEND[..33].to_vec(alloc)?;
-    assert!(rt; is_refused(alloc, cut, "refused: frame: bad size\n")?);
+    Ok(())
+}
+
+/// Whether `lower` and `check3` both refuse a file with this line.
+fn is_unread(alloc: Global, bytes: &[u8], printed: &str) -> Result<bool, AllocError> {
+    Ok(
+        is_refused(alloc, bytes.to_vec(alloc)?, printed)?
+            && is_checked(alloc, "check3", bytes.to_vec(alloc)?, CALM, 1, printed)?,
+    )
+}
+
+#[test]
+fn the_example_damaged(rt: HostRuntime) -> Result<(), Fail> {
+    let alloc = rt.alloc();
+    // The place of a byte, and what stands there: another head, a section twice, a section of another kind, the size of
+    // a body that then ends too late, and a body without its end.
+    let rows: [(usize, u8, &str); 5] = [
+        (4, 0x02, "refused: frame: bad head\n"),
+        (16, 0x01, "refused: frame: bad order\n"),
+        (16, 0x04, "refused: section 1\n"),
+        (30, 0x06, "refused: section 3\n"),
+        (35, 0x01, "refused: body 0\n"),
+    ];
+    for (place, byte, printed) in rows {
+        let mut bytes = EXTEND;
+        bytes[place] = byte;
+        assert!(rt; is_unread(alloc, &bytes, printed)?);
+    }
+    assert!(rt; is_unread(alloc, &EXTEND[..33], "refused: frame: bad size\n")?);
     Ok(())
 }
 

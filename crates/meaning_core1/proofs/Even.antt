@@ -4,6 +4,7 @@ use Rattle.std.proofs.Common.{◌≡◌, ℕ, Bool, true, false, ◌&&◌, if◌
 use Rattle.std.proofs.lemmas.List.{append_cancel_left}
 use Rattle.std.specs.Prelude.{slice_get, set}
 use Rattle.std.specs.List.{AllByRecursion}
+use Rattle.host_kit.specs.Offered1.{exported1}
 use Rattle.host_kit.specs.Trace.{Mark, Shows, Grown, Captured, Begins, seen, answers}
 use Rattle.host_kit.proofs.Marks.{begins_same, begins_append, begins_trans, begins_answers, answers-shown, answers-grown}
 use Rattle.host_kit.specs.declared.event.Event.{Event}
@@ -27,7 +28,7 @@ use Rattle.evaluation_kit.proofs.Invariants.{Kept, PlainAfter, Keeps}
 use Rattle.evaluation_kit.proofs.Replaying.{Answering, ActReplays, untouched, free_plain, freed_plain, PastPlain}
 use Rattle.meaning_core1.specs.declared.val1.Val1.{Val1}
 use Rattle.meaning_core1.specs.Store.{Store1, State1, Memory1, Effect, Growth1, absent, in_store, show, sizes1, effect_or_trap, by_store, grows1, growth_settled, grow_or_trap, by_growth, host_value, value_from}
-use Rattle.meaning_core1.specs.Hosting.{export1, exported_values, set1, shown_bytes, peek_memory, peek1, poked, poke_memory, poke1, act1, acts1, answer1, call_host}
+use Rattle.meaning_core1.specs.Hosting.{exported_values, set1, shown_bytes, peek_memory, peek1, poked, poke_memory, poke1, act1, acts1, answer1, call_host}
 
 -- the mark is no capture, and does not show that a store of captures is full
 abbrev pub NoCapture : Mark → Type 0
@@ -262,9 +263,9 @@ poke_step (Some _) at bytes = record { even = even_itself; again = λ g s. refl 
 poke_step None at bytes = record { even = even_itself; again = λ g s. refl }
 
 pub act_step : (m : Module1) (a : Act) → EvenStep (act1 m a)
-act_step m (Set name v) = set_step (export1 m name) v
-act_step m (Peek name at count) = peek_step (export1 m name) at count
-act_step m (Poke name at bytes) = poke_step (export1 m name) at bytes
+act_step m (Set name v) = set_step (exported1 m name) v
+act_step m (Peek name at count) = peek_step (exported1 m name) at count
+act_step m (Poke name at bytes) = poke_step (exported1 m name) at bytes
 
 acts_step : (m : Module1) (list : List Act) → EvenStep (acts1 m list)
 acts_step m [] = record { even = even_itself; again = λ g s. refl }

@@ -1,6 +1,7 @@
 -- What the host of a module of 1.0 does keeps to each law of runs.
 use Rattle.std.proofs.Common.{◌≡◌, ℕ, ◌+◌, Bool, List, [], ◌∷◌, ◌++◌, Option, Some, None, refl, sym, ap, ◌∙◌}
 use Rattle.std.specs.List.{AllByRecursion}
+use Rattle.host_kit.specs.Offered1.{exported1}
 use Rattle.host_kit.specs.Trace.{Shows, seen, answers}
 use Rattle.host_kit.specs.declared.event.Event.{Event}
 use Rattle.host_kit.specs.declared.event.Event.TheVariants as events
@@ -22,7 +23,6 @@ use Rattle.evaluation_kit.proofs.Replaying.{freed_plain}
 use Rattle.evaluation_kit.proofs.TaskLaws.{status_state, TaskLeads, TaskKeeps, StatusAfter, TaskReplays, freed_status}
 use Rattle.meaning_core1.specs.declared.val1.Val1.{Val1}
 use Rattle.meaning_core1.specs.Store.{Store1, State1, in_store, show}
-use Rattle.meaning_core1.specs.Hosting.{export1}
 use Rattle.meaning_core1.specs.Instances.{with_segments}
 use Rattle.meaning_core1.specs.Runs.{segments_status, start_status, start1, call_status, call1_task, item1, items1, tasks1}
 use Rattle.meaning_core1.proofs.Even.{NoCapture, answering_with, no_more, Even, even_itself, even_same, even_show, order, clean, answering, act_step}
@@ -72,7 +72,7 @@ call_is m i (Some _) arguments = record { change = λ s. shown_here _ s tt }
 call_is m i None arguments = record { change = λ s. shown_here _ s tt }
 
 item_is : (m : Module1) (i : ℕ) (item : Item) → TaskIs (item1 m i item)
-item_is m i (Call name arguments) = call_is m i (export1 m name) arguments
+item_is m i (Call name arguments) = call_is m i (exported1 m name) arguments
 item_is m i (Host a) = record {
   change = λ s. record { even = (act_step m a).even s; again = λ g. ap (λ t. Go t) ((act_step m a).again g s) };
 }

@@ -1,6 +1,7 @@
 -- The language of a module of 1.0 keeps to each law of runs: what each instruction is, and what each function index names.
 use Rattle.std.proofs.Common.{◌≡◌, ℕ, ◌-◌, Bool, true, false, if◌then◌else◌, List, ◌⊎◌, inl, inr, Option, Some, None, refl, subst}
 use Rattle.std.specs.Prelude.{slice_get, nat_lt, option_map, option_and_then, length}
+use Rattle.host_kit.specs.Offered1.{func_type1}
 use Rattle.core1_ast.specs.declared.module.ty.FuncType1.{FuncType1}
 use Rattle.core1_ast.specs.declared.module.code.Body1.{Body1}
 use Rattle.core1_ast.specs.declared.module.code.Instr1.{Instr1}
@@ -19,7 +20,7 @@ use Rattle.meaning_core1.specs.Store.{Store1, State1, Growth1, by_growth}
 use Rattle.meaning_core1.specs.Operators.{top1, pure_op, is_true, dropped, selected}
 use Rattle.meaning_core1.specs.Accesses.{get_global1, set_global1, load1, store1, size1, grow1}
 use Rattle.meaning_core1.specs.Hosting.{call_host}
-use Rattle.meaning_core1.specs.Language.{func_type1, imported_count, function1, callee_as, callee1, layer1, language1}
+use Rattle.meaning_core1.specs.Language.{imported_count, function1, callee_as, callee1, layer1, language1}
 use Rattle.meaning_core1.proofs.Even.{EvenAct, order, clean, answering, even_leads, even_clean, even_replays, even_operands, even_store, even_nothing, even_get, even_set, even_tee, even_jump, even_branch_if, even_branch_table, even_host, grow_leads, grow_clean, grow_replays}
 
 -- an instruction that grows the memory

@@ -1,6 +1,7 @@
 -- What the host of a module of 1.0 does between and inside calls: this project's own, by the names of exports. An act that
 -- asks for nothing that the module exports does nothing; a script that fits has none.
-use Rattle.std.specs.Prelude.{ℕ, List, [], ◌∷◌, map, filter_map, find, bytes_eq, reverse, set, slice_get, slice_index_or, Option, Some, None, option_map}
+use Rattle.std.specs.Prelude.{ℕ, List, [], ◌∷◌, map, filter_map, reverse, set, slice_get, slice_index_or, Option, Some, None}
+use Rattle.host_kit.specs.Offered1.{exported1}
 use Rattle.host_kit.specs.declared.event.Event.TheVariants as events
 use Rattle.host_kit.specs.declared.script.Act.{Act}
 use Rattle.host_kit.specs.declared.script.Act.TheVariants.{Set, Peek, Poke}
@@ -16,10 +17,6 @@ use Rattle.evaluation_kit.specs.Leaves.{read_range, write_range}
 use Rattle.meaning_core1.specs.declared.val1.Val1.{Val1}
 use Rattle.meaning_core1.specs.Store.{Store1, State1, Memory1, in_store, absent, host_value, value_from, show}
 use Rattle.meaning_core1.specs.Accesses.{put_global, put_bytes}
-
--- what the module exports under a name
-abbrev pub export1 : Module1 → List ℕ → Option ExportDesc1
-export1 m name = option_map (λ e. e.desc) (find (λ e. bytes_eq e.name name) m.exports)
 
 -- the values of the exported globals, in export order
 abbrev pub exported_value : Store1 → ExportDesc1 → Option Value
@@ -61,9 +58,9 @@ poke1 (Some (exports.Memory x)) at bytes s = poke_memory x (slice_get s.store.me
 poke1 _ at bytes s = s
 
 abbrev pub act1 : Module1 → Act → State1 → State1
-act1 m (Set name v) s = set1 (export1 m name) v s
-act1 m (Peek name at count) s = peek1 (export1 m name) at count s
-act1 m (Poke name at bytes) s = poke1 (export1 m name) at bytes s
+act1 m (Set name v) s = set1 (exported1 m name) v s
+act1 m (Peek name at count) s = peek1 (exported1 m name) at count s
+act1 m (Poke name at bytes) s = poke1 (exported1 m name) at bytes s
 
 abbrev pub acts1 : Module1 → List Act → State1 → State1
 acts1 m [] s = s

@@ -2,7 +2,8 @@
 -- language that they make.
 use Rattle.std.specs.Prelude.{◌≡◌, ℕ, ◌-◌, Bool, true, false, nat_lt, bytes_eq, ◌&&◌, if◌then◌else◌, List, [], ◌∷◌, length, map, filter_map, slice_get, Option, Some, None, option_map, option_and_then, refl}
 use Rattle.std.proofs.Common.{ap, ◌∙◌, subst}
-use Rattle.core1_ast.specs.Spaces.{func_indices, func_import}
+use Rattle.host_kit.specs.Offered1.{func_type1}
+use Rattle.core1_ast.specs.Spaces.{func_import}
 use Rattle.core1_ast.specs.declared.module.ty.Ty1.{Ty1}
 use Rattle.core1_ast.specs.declared.module.ty.Ty1.TheVariants as types
 use Rattle.core1_ast.specs.declared.module.ty.BlockType1.{BlockType1}
@@ -25,10 +26,6 @@ use Rattle.meaning_core1.specs.Store.{State1, absent, zero_of_type, by_store, by
 use Rattle.meaning_core1.specs.Operators.{top1, pure_op, is_true, dropped, selected}
 use Rattle.meaning_core1.specs.Accesses.{get_global1, set_global1, load1, store1, size1, grow1}
 use Rattle.meaning_core1.specs.Hosting.{call_host}
-
--- the type of a function, the imported functions first
-abbrev pub func_type1 : Module1 → ℕ → Option FuncType1
-func_type1 m x = option_and_then (slice_get m.types) (slice_get (func_indices m) x)
 
 abbrev pub parameter_count : Option FuncType1 → ℕ
 parameter_count None = 0

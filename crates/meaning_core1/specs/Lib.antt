@@ -6,6 +6,5 @@ pub mod Hosting
 pub mod Language
 pub mod Instances
 pub mod Runs
-pub mod Fits
 pub mod RunLaws
 pub mod Examples

@@ -5,7 +5,7 @@ use Rattle.host_kit.specs.Scripts.{regrow}
 use Rattle.host_kit.specs.declared.event.Event.TheVariants.{Full}
 use Rattle.host_kit.specs.declared.script.Script.{Script}
 use Rattle.core1_ast.specs.declared.module.parts.Module1.{Module1}
-use Rattle.meaning_core1.specs.Fits.{ScriptFits1}
+use Rattle.host_kit.specs.Fits1.{ScriptFits1}
 use Rattle.meaning_core1.specs.Runs.{trace1, depth1}
 
 -- with more turns the trace only goes on, and no count falls

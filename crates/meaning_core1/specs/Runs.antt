@@ -1,6 +1,7 @@
 -- The whole run of a script over a module of 1.0: instantiation, the start function, and the items ("Modules" of chapter 4
 -- of 1.0, "Instantiation" and "Invocation").
 use Rattle.std.specs.Prelude.{ℕ, ◌+◌, List, [], ◌∷◌, ◌++◌, map, reverse, Option, Some, None}
+use Rattle.host_kit.specs.Offered1.{exported1}
 use Rattle.host_kit.specs.Trace.{Mark}
 use Rattle.host_kit.specs.declared.event.Event.TheVariants as events
 use Rattle.host_kit.specs.declared.script.Item.{Item}
@@ -17,7 +18,7 @@ use Rattle.evaluation_kit.specs.Languages.{func}
 use Rattle.evaluation_kit.specs.Tasks.{Status, Task, Change, Enter, world_after}
 use Rattle.meaning_core1.specs.declared.val1.Val1.{Val1}
 use Rattle.meaning_core1.specs.Store.{Store1, State1, in_store, show, host_value, value_from}
-use Rattle.meaning_core1.specs.Hosting.{export1, exported_values, act1}
+use Rattle.meaning_core1.specs.Hosting.{exported_values, act1}
 use Rattle.meaning_core1.specs.Instances.{new_state1, with_segments}
 use Rattle.meaning_core1.specs.Language.{language1}
 
@@ -51,7 +52,7 @@ call1_task m i (Some (Func x)) arguments = Enter x (reverse (map value_from argu
 call1_task m i _ arguments = Change (λ s. Go (show_trap m i s))
 
 abbrev pub item1 : Module1 → ℕ → Item → Task Val1 State1
-item1 m i (Call name arguments) = call1_task m i (export1 m name) arguments
+item1 m i (Call name arguments) = call1_task m i (exported1 m name) arguments
 item1 m i (Host a) = Change (λ s. Go (act1 m a s))
 
 abbrev pub items1 : Module1 → ℕ → List Item → List (Task Val1 State1)

@@ -1,6 +1,7 @@
 -- The plain instructions that are even: all but the growths.
 use Rattle.std.proofs.Common.{◌≡◌, ℕ, Bool, true, false, List, [], ◌∷◌, map, reverse, Option, Some, None, refl, ap, ◌∙◌}
 use Rattle.std.specs.Prelude.{slice_get, set}
+use Rattle.host_kit.specs.Offered.{exported}
 use Rattle.host_kit.specs.declared.event.Event.TheVariants as events
 use Rattle.host_kit.specs.declared.script.Act.{Act}
 use Rattle.host_kit.specs.declared.script.Act.TheVariants.{Set, Peek, Poke}
@@ -19,7 +20,7 @@ use Rattle.meaning_new.specs.declared.val.Val.{Val}
 use Rattle.meaning_new.specs.declared.val.Val.TheVariants as vals
 use Rattle.meaning_new.specs.Store.{Store, State, Memory, After, store_or_trap, on_store, missing, tell, to_host, from_host, with_store}
 use Rattle.meaning_new.specs.Exceptions.{thrown, throw, throw_ref}
-use Rattle.meaning_new.specs.Host.{export_of, global_values, set_export, exported_memory, told_bytes, peek, told_write, poke, act, acts, replied, host_call}
+use Rattle.meaning_new.specs.Host.{global_values, set_export, exported_memory, told_bytes, peek, told_write, poke, act, acts, replied, host_call}
 use Rattle.meaning_new.specs.Memories.{write_at}
 use Rattle.meaning_new.specs.Forms.{pick, tail_call, tail_call_by}
 use Rattle.meaning_new.proofs.Even.{redial, redial_plain, Even, even_same, even_itself, even_trans, even_tell, EvenAct, EvenHere, even_act}
@@ -139,14 +140,14 @@ poke_redialed (Some _) m at bytes g permits room s = refl
 poke_redialed None m at bytes g permits room s = refl
 
 pub act_step : (m : Module) (a : Act) → EvenStep (act m a)
-act_step m (Set name v) = set_step (export_of m name) v
+act_step m (Set name v) = set_step (exported m name) v
 act_step m (Peek name at count) = record {
-  even = λ s. peek_even (exported_memory (export_of m name) s.store) at count s;
-  redialed = λ g permits room s. peek_redialed (exported_memory (export_of m name) s.store) at count g permits room s;
+  even = λ s. peek_even (exported_memory (exported m name) s.store) at count s;
+  redialed = λ g permits room s. peek_redialed (exported_memory (exported m name) s.store) at count g permits room s;
 }
 act_step m (Poke name at bytes) = record {
-  even = λ s. poke_even (export_of m name) (exported_memory (export_of m name) s.store) at bytes s;
-  redialed = λ g permits room s. poke_redialed (export_of m name) (exported_memory (export_of m name) s.store) at bytes g permits room s;
+  even = λ s. poke_even (exported m name) (exported_memory (exported m name) s.store) at bytes s;
+  redialed = λ g permits room s. poke_redialed (exported m name) (exported_memory (exported m name) s.store) at bytes g permits room s;
 }
 
 acts_step : (m : Module) (list : List Act) → EvenStep (acts m list)

@@ -3,6 +3,7 @@ use Rattle.std.proofs.Common.{◌≡◌, ℕ, ◌+◌, ◌≤◌, Bool, List, []
 use Rattle.std.proofs.lemmas.List.{append_cancel_left}
 use Rattle.std.specs.Prelude.{slice_get}
 use Rattle.std.specs.List.{AllByRecursion}
+use Rattle.host_kit.specs.Offered.{exported}
 use Rattle.host_kit.specs.Trace.{Shows, Begins, seen, answers}
 use Rattle.host_kit.proofs.Marks.{begins_append, answers-shown, captured-shown, cut-append}
 use Rattle.host_kit.specs.declared.event.Event.{Event}
@@ -26,7 +27,6 @@ use Rattle.evaluation_kit.proofs.Replaying.{freed_plain}
 use Rattle.evaluation_kit.proofs.TaskLaws.{status_state, TaskLeads, TaskKeeps, StatusAfter, TaskReplays, freed_status, TaskCuts, bounded_status}
 use Rattle.meaning_new.specs.declared.val.Val.{Val}
 use Rattle.meaning_new.specs.Store.{Store, State, Exception, tell, with_store}
-use Rattle.meaning_new.specs.Host.{export_of}
 use Rattle.meaning_new.specs.Instances.{place_segments}
 use Rattle.meaning_new.specs.Runs.{instantiated, started, start_task, uncaught, answered, call_task, item_task, item_tasks, run_tasks}
 use Rattle.meaning_new.proofs.Even.{redial, redial_plain, redial_res, LeavesNotFull, Even, even_itself, even_same, even_tell, all_append}
@@ -98,7 +98,7 @@ call_is m i (Some _) arguments = record { change = λ s. told_here _ s (λ e. cc
 call_is m i None arguments = record { change = λ s. told_here _ s (λ e. cc) }
 
 item_is : (m : Module) (i : ℕ) (item : Item) → TaskIs (item_task m i item)
-item_is m i (Call name arguments) = call_is m i (export_of m name) arguments
+item_is m i (Call name arguments) = call_is m i (exported m name) arguments
 item_is m i (Host a) = record {
   change = λ s. record { even = (act_step m a).even s; redialed = λ g permits room. ap (λ t. Go t) ((act_step m a).redialed g permits room s); not_full = tt };
 }

@@ -1,6 +1,7 @@
 -- The language of a module keeps to each law of runs: what each instruction is, and what each function index names.
 use Rattle.std.proofs.Common.{◌≡◌, ℕ, ◌-◌, Bool, true, false, if◌then◌else◌, List, ◌⊎◌, inl, inr, Option, Some, None, refl, subst}
 use Rattle.std.specs.Prelude.{slice_get, nat_lt, option_map, option_and_then, length}
+use Rattle.host_kit.specs.Offered.{func_type}
 use Rattle.wasm_ast.specs.declared.module.immediates.Catch.{Catch}
 use Rattle.wasm_ast.specs.declared.module.ty.FuncType.{FuncType}
 use Rattle.wasm_ast.specs.declared.module.code.Body.{Body}
@@ -23,7 +24,7 @@ use Rattle.meaning_new.specs.Memories
 use Rattle.meaning_new.specs.Tables
 use Rattle.meaning_new.specs.Exceptions.{handler}
 use Rattle.meaning_new.specs.Host.{host_call}
-use Rattle.meaning_new.specs.Forms.{layer, callee, callee_of_type, function, imported_funcs, type_of_func, type_of_tag, param_count, holds, drop_operand, select}
+use Rattle.meaning_new.specs.Forms.{layer, callee, callee_of_type, function, imported_funcs, type_of_tag, param_count, holds, drop_operand, select}
 use Rattle.meaning_new.specs.Language.{language}
 use Rattle.meaning_new.proofs.Even.{EvenAct, redial_plain}
 use Rattle.meaning_new.proofs.EvenLeaves.{even_operands, even_store, even_nothing, even_get, even_set, even_tee, even_jump, even_branch_if, even_branch_table, even_tail, even_throw, even_throw_ref, even_host}
@@ -108,7 +109,7 @@ index_is m x None = tt
 index_is m x (Some t) = typed_is m x t (nat_lt x (imported_funcs m))
 
 callees_are : (m : Module) (x : ℕ) → CalleeIs (callee m x)
-callees_are m x = index_is m x (type_of_func m x)
+callees_are m x = index_is m x (func_type m x)
 
 form_leads : {X : Type 0} (form : Form Val State X) → FormIs form → FormLeads order form
 form_leads (Flat act) (inl e) = even_leads act e

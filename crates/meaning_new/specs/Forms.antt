@@ -1,8 +1,8 @@
 -- The form of each instruction of a module ("Instructions" of chapter 4), and what its functions are: the language in
 -- which the module is written.
 use Rattle.std.specs.Prelude.{ℕ, ◌-◌, Bool, true, false, not, nat_eq, nat_lt, bytes_eq, if◌then◌else◌, List, [], ◌∷◌, length, map, slice_get, Option, Some, None, option_map, option_and_then, count_by}
+use Rattle.host_kit.specs.Offered.{func_type}
 use Rattle.wasm_ast.specs.Types.{type_key}
-use Rattle.wasm_ast.specs.Spaces.{func_indices}
 use Rattle.wasm_ast.specs.declared.module.ty.BlockType.{BlockType}
 use Rattle.wasm_ast.specs.declared.module.ty.BlockType.TheVariants as blocks
 use Rattle.wasm_ast.specs.declared.module.ty.FuncType.{FuncType}
@@ -28,10 +28,6 @@ use Rattle.meaning_new.specs.Tables
 use Rattle.meaning_new.specs.Exceptions.{throw, throw_ref, handler}
 use Rattle.meaning_new.specs.Host.{host_call}
 use Rattle.meaning_new.specs.Interface.{tag_indices}
-
--- the types of functions and of tags, by their index among the imported and the module's own
-abbrev pub type_of_func : Module → ℕ → Option FuncType
-type_of_func m x = option_and_then (slice_get m.types) (slice_get (func_indices m) x)
 
 abbrev pub type_of_tag : Module → ℕ → Option FuncType
 type_of_tag m x = option_and_then (slice_get m.types) (slice_get (tag_indices m) x)
@@ -79,7 +75,7 @@ same_type (Some s) (Some t) = bytes_eq (type_key s) (type_key t)
 same_type _ _ = false
 
 abbrev pub of_type : Module → ℕ → ℕ → Option ℕ
-of_type m type f = if same_type (type_of_func m f) (slice_get m.types type) then Some f else None
+of_type m type f = if same_type (func_type m f) (slice_get m.types type) then Some f else None
 
 abbrev pub pick : Module → ℕ → ℕ → Plain Val State → Option ℕ
 pick m type table p =
@@ -109,7 +105,7 @@ layer m X (Instr-F.Br l) = Flat (leaves.jump (jumps.Branch l))
 layer m X (Instr-F.BrIf l) = Flat (leaves.branch_if holds l)
 layer m X (Instr-F.BrTable labels last) = Flat (leaves.branch_table first labels last)
 layer m X Instr-F.Return = Flat (leaves.jump jumps.Return)
-layer m X (Instr-F.Call x) = Invoke (param_count (type_of_func m x)) x
+layer m X (Instr-F.Call x) = Invoke (param_count (func_type m x)) x
 layer m X (Instr-F.CallIndirect t table) = InvokeBy (param_count (slice_get m.types t)) (pick m t table)
 layer m X (Instr-F.ReturnCall x) = Flat (leaves.jump (jumps.TailCall x))
 layer m X (Instr-F.ReturnCallIndirect t table) = Flat (tail_call_by m t table)
@@ -167,4 +163,4 @@ callee_of_type m x t =
     else option_map (λ body. Own (function t body)) (slice_get m.codes (x - imported_funcs m))
 
 abbrev pub callee : Module → ℕ → Option (Callee Instr Val State)
-callee m x = option_and_then (callee_of_type m x) (type_of_func m x)
+callee m x = option_and_then (callee_of_type m x) (func_type m x)

@@ -1,6 +1,7 @@
 -- What the host does between and inside calls: this project's own, by the names of exports. An act that asks for nothing
 -- that the module exports does nothing; a script that fits has none.
-use Rattle.std.specs.Prelude.{ℕ, List, [], ◌∷◌, map, filter_map, find, bytes_eq, reverse, set, slice_get, slice_index_or, Option, Some, None, option_map}
+use Rattle.std.specs.Prelude.{ℕ, List, [], ◌∷◌, map, filter_map, reverse, set, slice_get, slice_index_or, Option, Some, None}
+use Rattle.host_kit.specs.Offered.{exported}
 use Rattle.host_kit.specs.declared.event.Event.TheVariants as events
 use Rattle.host_kit.specs.declared.script.Act.{Act}
 use Rattle.host_kit.specs.declared.script.Act.TheVariants.{Set, Peek, Poke}
@@ -17,10 +18,6 @@ use Rattle.meaning_new.specs.declared.val.Val.{Val}
 use Rattle.meaning_new.specs.Store.{Store, State, Memory, missing, to_host, from_host, tell, with_store}
 use Rattle.meaning_new.specs.Memories.{write_at}
 use Rattle.meaning_new.specs.Tables.{with_global}
-
--- what the module exports under a name
-abbrev pub export_of : Module → List ℕ → Option ExportDesc
-export_of m name = option_map (λ e. e.desc) (find (λ e. bytes_eq e.name name) m.exports)
 
 -- the values of the exported globals, in export order
 abbrev pub global_value : Store → ExportDesc → Option Value
@@ -56,9 +53,9 @@ poke (Some (exports.Memory x)) (Some m) at bytes s = told_write (write_at x m at
 poke _ _ at bytes s = s
 
 abbrev pub act : Module → Act → State → State
-act m (Set name v) s = set_export (export_of m name) v s
-act m (Peek name at count) s = peek (exported_memory (export_of m name) s.store) at count s
-act m (Poke name at bytes) s = poke (export_of m name) (exported_memory (export_of m name) s.store) at bytes s
+act m (Set name v) s = set_export (exported m name) v s
+act m (Peek name at count) s = peek (exported_memory (exported m name) s.store) at count s
+act m (Poke name at bytes) s = poke (exported m name) (exported_memory (exported m name) s.store) at bytes s
 
 abbrev pub acts : Module → List Act → State → State
 acts m [] s = s

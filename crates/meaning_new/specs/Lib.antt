@@ -9,6 +9,5 @@ pub mod Forms
 pub mod Instances
 pub mod Language
 pub mod Runs
-pub mod Fits
 pub mod RunLaws
 pub mod Examples

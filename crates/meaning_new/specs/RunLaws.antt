@@ -7,7 +7,7 @@ use Rattle.host_kit.specs.declared.event.Event.{Event}
 use Rattle.host_kit.specs.declared.event.Event.TheVariants.{Full}
 use Rattle.host_kit.specs.declared.script.Script.{Script}
 use Rattle.wasm_ast.specs.declared.module.parts.Module.{Module}
-use Rattle.meaning_new.specs.Fits.{ScriptFits}
+use Rattle.host_kit.specs.Fits.{ScriptFits}
 use Rattle.meaning_new.specs.Runs.{trace, depth, bounded_trace, bounded_depth}
 
 -- with more turns the trace only goes on, also within bounds, and no count falls

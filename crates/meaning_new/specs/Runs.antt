@@ -1,6 +1,7 @@
 -- The whole run of a script: instantiation, the start function, and the items ("Modules" of chapter 4, "Instantiation"
 -- and "Invocation").
 use Rattle.std.specs.Prelude.{ℕ, ◌+◌, Bool, true, false, List, [], ◌∷◌, ◌++◌, map, reverse, slice_get, Option, Some, None}
+use Rattle.host_kit.specs.Offered.{exported}
 use Rattle.host_kit.specs.Trace.{Mark}
 use Rattle.host_kit.specs.declared.event.Event.TheVariants as events
 use Rattle.host_kit.specs.declared.script.Item.{Item}
@@ -17,7 +18,7 @@ use Rattle.evaluation_kit.specs.Languages.{func}
 use Rattle.evaluation_kit.specs.Tasks.{Status, Task, Change, Enter, world_after}
 use Rattle.meaning_new.specs.declared.val.Val.{Val}
 use Rattle.meaning_new.specs.Store.{Store, State, Exception, tell, to_host, from_host, with_store}
-use Rattle.meaning_new.specs.Host.{export_of, global_values, act}
+use Rattle.meaning_new.specs.Host.{global_values, act}
 use Rattle.meaning_new.specs.Instances.{new_state, place_segments}
 use Rattle.meaning_new.specs.Language.{language}
 
@@ -60,7 +61,7 @@ call_task m i (Some (Func x)) arguments = Enter x (reverse (map from_host argume
 call_task m i _ arguments = Change (λ s. Go (trapped m i s))
 
 abbrev pub item_task : Module → ℕ → Item → Task Val State
-item_task m i (Call name arguments) = call_task m i (export_of m name) arguments
+item_task m i (Call name arguments) = call_task m i (exported m name) arguments
 item_task m i (Host a) = Change (λ s. Go (act m a s))
 
 abbrev pub item_tasks : Module → ℕ → List Item → List (Task Val State)

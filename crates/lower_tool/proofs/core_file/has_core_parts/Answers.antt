@@ -1,4 +1,4 @@
-use Rattle.std.proofs.Common.{sym, ◌∙◌, ap, map, ℕ, List}
+use Rattle.std.proofs.Common.{sym, ◌∙◌, ap, map, List}
 use Rattle.wasm_frame.specs.Frame.{Part}
 use Rattle.lower_tool.proofs.CoreFiles.{same_ids}
 use Rattle.lower_tool.proofs.core_file.has_core_parts.Goals as goal

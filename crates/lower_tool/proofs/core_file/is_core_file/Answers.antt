@@ -1,5 +1,4 @@
 use Rattle.std.proofs.Common.{List, subst}
-use Rattle.std.specs.Prelude.{IsTrue, ◌↔◌}
 use Rattle.wasm_frame.specs.declared.sections.Version.{Version}
 use Rattle.wasm_frame.specs.declared.sections.Version.TheVariants.{Three}
 use Rattle.wasm_frame.specs.Frame.{Part, Frame, Whole}

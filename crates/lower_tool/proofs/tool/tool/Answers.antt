@@ -1,4 +1,4 @@
-use Rattle.std.proofs.Common.{◌≡◌, Err, sym, ◌∙◌, ap, subst}
+use Rattle.std.proofs.Common.{Err, sym, ◌∙◌, ap, subst}
 use Rattle.tool_files.specs.Held.{Told, Sets}
 use Rattle.lower_tool.specs.Commands.{command_of}
 use Rattle.lower_tool.specs.Products.{IfFile}

@@ -1,7 +1,15 @@
 -- That a script fits a module: it asks for nothing that the module does not offer, with values of the right types and
 -- within the ranges that scripts have.
-use Rattle.std.specs.Prelude.{◌≡◌, ℕ, ◌-◌, ◌<◌, ◌≤◌, ◌^◌, true, List, [], ◌∷◌, length, filter_map, slice_get, Option, Some, None}
+use Rattle.std.specs.Prelude.{◌≡◌, ℕ, ◌-◌, ◌<◌, ◌≤◌, ◌^◌, true, List, [], length, filter_map, slice_get, Option, Some, None}
 use Rattle.std.specs.List.{AllByRecursion}
+use Rattle.wasm_ast.specs.Spaces.{func_indices, memory_count, func_import, global_import}
+use Rattle.wasm_ast.specs.declared.module.ty.Ty.{Ty}
+use Rattle.wasm_ast.specs.declared.module.ty.Ty.TheVariants as types
+use Rattle.wasm_ast.specs.declared.module.ty.FuncType.{FuncType}
+use Rattle.wasm_ast.specs.declared.module.parts.ExportDesc.TheVariants as exports
+use Rattle.wasm_ast.specs.declared.module.parts.Module.{Module}
+use Rattle.host_kit.specs.Pairwise.{Pairwise}
+use Rattle.host_kit.specs.Offered.{exported, func_type, all_globals}
 use Rattle.host_kit.specs.declared.script.Act.{Act}
 use Rattle.host_kit.specs.declared.script.Act.TheVariants.{Set, Peek, Poke}
 use Rattle.host_kit.specs.declared.script.Item.{Item}
@@ -10,15 +18,6 @@ use Rattle.host_kit.specs.declared.script.Reply.{Reply}
 use Rattle.host_kit.specs.declared.script.Script.{Script}
 use Rattle.host_kit.specs.declared.value.Value.{Value}
 use Rattle.host_kit.specs.declared.value.Value.TheVariants as values
-use Rattle.wasm_ast.specs.Spaces.{func_indices, func_import, global_import}
-use Rattle.wasm_ast.specs.declared.module.ty.Ty.{Ty}
-use Rattle.wasm_ast.specs.declared.module.ty.Ty.TheVariants as types
-use Rattle.wasm_ast.specs.declared.module.ty.FuncType.{FuncType}
-use Rattle.wasm_ast.specs.declared.module.parts.ExportDesc.TheVariants as exports
-use Rattle.wasm_ast.specs.declared.module.parts.Module.{Module}
-use Rattle.meaning_new.specs.Forms.{type_of_func}
-use Rattle.meaning_new.specs.Host.{export_of}
-use Rattle.meaning_new.specs.Interface.{global, all_globals, all_memories}
 
 -- the value has the type, and its number is one of the type's
 abbrev pub ValueHasType : Module → Value → Ty → Type 0
@@ -33,30 +32,27 @@ ValueHasType m v t = ⊥
 
 -- as many values as types, each of its type
 abbrev pub ValuesHaveTypes : Module → List Value → List Ty → Type 0
-ValuesHaveTypes m [] [] = Unit {0}
-ValuesHaveTypes m [] (t ∷ ts) = ⊥
-ValuesHaveTypes m (v ∷ vs) [] = ⊥
-ValuesHaveTypes m (v ∷ vs) (t ∷ ts) = ValueHasType m v t × ValuesHaveTypes m vs ts
+ValuesHaveTypes m vs ts = Pairwise (ValueHasType m) vs ts
 
 -- an exported function that takes the arguments, an exported global that can be set to the value, and an exported memory
 pub record CallFits (m : Module) (name : List ℕ) (arguments : List Value) : Type 0 where
   pub func : ℕ
   pub type : FuncType
-  pub exported : export_of m name ≡ Some (exports.Func func)
-  pub typed : type_of_func m func ≡ Some type
+  pub offered : exported m name ≡ Some (exports.Func func)
+  pub typed : func_type m func ≡ Some type
   pub params : ValuesHaveTypes m arguments type.params
 
 pub record SetFits (m : Module) (name : List ℕ) (v : Value) : Type 0 where
   pub index : ℕ
   pub type : Ty
-  pub exported : export_of m name ≡ Some (exports.Global index)
-  pub mutable : slice_get (all_globals m) index ≡ Some (global type true)
+  pub offered : exported m name ≡ Some (exports.Global index)
+  pub mutable : slice_get (all_globals m) index ≡ Some (record { ty = type; mutable = true })
   pub value : ValueHasType m v type
 
 pub record MemoryFits (m : Module) (name : List ℕ) (at count : ℕ) : Type 0 where
   pub index : ℕ
-  pub exported : export_of m name ≡ Some (exports.Memory index)
-  pub there : index < length (all_memories m)
+  pub offered : exported m name ≡ Some (exports.Memory index)
+  pub there : index < memory_count m
   pub address : at < 2 ^ 64
   pub few : count ≤ 65536
 
@@ -78,11 +74,9 @@ abbrev pub results_of : Option FuncType → List Ty
 results_of None = []
 results_of (Some t) = t.results
 
+-- one list of replies for each imported function, by the indices of their types
 abbrev pub RepliesFit : Module → List (List Reply) → List ℕ → Type 0
-RepliesFit m [] [] = Unit {0}
-RepliesFit m [] (t ∷ ts) = ⊥
-RepliesFit m (r ∷ rs) [] = ⊥
-RepliesFit m (r ∷ rs) (t ∷ ts) = AllByRecursion (ReplyFits m (results_of (slice_get m.types t))) r × RepliesFit m rs ts
+RepliesFit m replies indices = Pairwise (λ rs t. AllByRecursion (ReplyFits m (results_of (slice_get m.types t))) rs) replies indices
 
 pub record ScriptFits (m : Module) (script : Script) : Type 0 where
   -- one value for each imported global, and one list of replies for each imported function

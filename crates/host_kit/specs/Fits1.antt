@@ -1,7 +1,15 @@
 -- That a script fits a module of 1.0: it asks for nothing that the module does not offer, with values of the right types
 -- and within the ranges that scripts have.
-use Rattle.std.specs.Prelude.{◌≡◌, ℕ, ◌<◌, ◌≤◌, ◌^◌, true, List, [], ◌∷◌, length, map, filter_map, slice_get, Option, Some, None}
+use Rattle.std.specs.Prelude.{◌≡◌, ℕ, ◌<◌, ◌≤◌, ◌^◌, true, List, [], length, filter_map, slice_get, Option, Some, None}
 use Rattle.std.specs.List.{AllByRecursion}
+use Rattle.core1_ast.specs.Spaces.{func_import, all_memories}
+use Rattle.core1_ast.specs.declared.module.ty.Ty1.{Ty1}
+use Rattle.core1_ast.specs.declared.module.ty.Ty1.TheVariants as types
+use Rattle.core1_ast.specs.declared.module.ty.FuncType1.{FuncType1}
+use Rattle.core1_ast.specs.declared.module.parts.ExportDesc1.TheVariants as exports
+use Rattle.core1_ast.specs.declared.module.parts.Module1.{Module1}
+use Rattle.host_kit.specs.Pairwise.{Pairwise}
+use Rattle.host_kit.specs.Offered1.{exported1, func_type1, global_import1, all_globals1}
 use Rattle.host_kit.specs.declared.script.Act.{Act}
 use Rattle.host_kit.specs.declared.script.Act.TheVariants.{Set, Peek, Poke}
 use Rattle.host_kit.specs.declared.script.Item.{Item}
@@ -10,14 +18,6 @@ use Rattle.host_kit.specs.declared.script.Reply.{Reply}
 use Rattle.host_kit.specs.declared.script.Script.{Script}
 use Rattle.host_kit.specs.declared.value.Value.{Value}
 use Rattle.host_kit.specs.declared.value.Value.TheVariants as values
-use Rattle.core1_ast.specs.Spaces.{func_import, imported_globals, all_globals, all_memories}
-use Rattle.core1_ast.specs.declared.module.ty.Ty1.{Ty1}
-use Rattle.core1_ast.specs.declared.module.ty.Ty1.TheVariants as types
-use Rattle.core1_ast.specs.declared.module.ty.FuncType1.{FuncType1}
-use Rattle.core1_ast.specs.declared.module.parts.ExportDesc1.TheVariants as exports
-use Rattle.core1_ast.specs.declared.module.parts.Module1.{Module1}
-use Rattle.meaning_core1.specs.Hosting.{export1}
-use Rattle.meaning_core1.specs.Language.{func_type1}
 
 -- the value has the type, and its number is one of the type's
 abbrev pub ValueHasType1 : Value → Ty1 → Type 0
@@ -27,29 +27,26 @@ ValueHasType1 v t = ⊥
 
 -- as many values as types, each of its type
 abbrev pub ValuesHaveTypes1 : List Value → List Ty1 → Type 0
-ValuesHaveTypes1 [] [] = Unit {0}
-ValuesHaveTypes1 [] (t ∷ ts) = ⊥
-ValuesHaveTypes1 (v ∷ vs) [] = ⊥
-ValuesHaveTypes1 (v ∷ vs) (t ∷ ts) = ValueHasType1 v t × ValuesHaveTypes1 vs ts
+ValuesHaveTypes1 vs ts = Pairwise ValueHasType1 vs ts
 
--- an exported function that takes the arguments, an exported global that can be set to the value, and an exported memory
+-- an exported1 function that takes1 the arguments, an exported1 global that can be set to the value, and an exported1 memory
 pub record CallFits1 (m : Module1) (name : List ℕ) (arguments : List Value) : Type 0 where
   pub func : ℕ
   pub type : FuncType1
-  pub exported : export1 m name ≡ Some (exports.Func func)
+  pub offered : exported1 m name ≡ Some (exports.Func func)
   pub typed : func_type1 m func ≡ Some type
   pub params : ValuesHaveTypes1 arguments type.params
 
 pub record SetFits1 (m : Module1) (name : List ℕ) (v : Value) : Type 0 where
   pub index : ℕ
   pub type : Ty1
-  pub exported : export1 m name ≡ Some (exports.Global index)
-  pub mutable : slice_get (all_globals m) index ≡ Some (record { type = type; mutable = true })
+  pub offered : exported1 m name ≡ Some (exports.Global index)
+  pub mutable : slice_get (all_globals1 m) index ≡ Some (record { ty = type; mutable = true })
   pub value : ValueHasType1 v type
 
 pub record MemoryFits1 (m : Module1) (name : List ℕ) (at count : ℕ) : Type 0 where
   pub index : ℕ
-  pub exported : export1 m name ≡ Some (exports.Memory index)
+  pub offered : exported1 m name ≡ Some (exports.Memory index)
   pub there : index < length (all_memories m)
   pub address : at < 2 ^ 64
   pub few : count ≤ 65536
@@ -68,18 +65,16 @@ pub record ReplyFits1 (m : Module1) (results : List Ty1) (reply : Reply) : Type 
   pub acts : AllByRecursion (ActFits1 m) reply.acts
   pub values : ValuesHaveTypes1 reply.values results
 
-abbrev pub results_at : Option FuncType1 → List Ty1
-results_at None = []
-results_at (Some t) = t.results
+abbrev pub results_of1 : Option FuncType1 → List Ty1
+results_of1 None = []
+results_of1 (Some t) = t.results
 
+-- one list of replies for each imported function, by the indices of their types
 abbrev pub RepliesFit1 : Module1 → List (List Reply) → List ℕ → Type 0
-RepliesFit1 m [] [] = Unit {0}
-RepliesFit1 m [] (t ∷ ts) = ⊥
-RepliesFit1 m (r ∷ rs) [] = ⊥
-RepliesFit1 m (r ∷ rs) (t ∷ ts) = AllByRecursion (ReplyFits1 m (results_at (slice_get m.types t))) r × RepliesFit1 m rs ts
+RepliesFit1 m replies indices = Pairwise (λ rs t. AllByRecursion (ReplyFits1 m (results_of1 (slice_get m.types t))) rs) replies indices
 
 pub record ScriptFits1 (m : Module1) (script : Script) : Type 0 where
   -- one value for each imported global, and one list of replies for each imported function
-  pub globals : ValuesHaveTypes1 script.globals (map (λ g. g.type) (imported_globals m))
+  pub globals : ValuesHaveTypes1 script.globals (filter_map (λ i. global_import1 i.desc) m.imports)
   pub replies : RepliesFit1 m script.replies (filter_map (λ i. func_import i.desc) m.imports)
   pub items : AllByRecursion (ItemFits1 m) script.items

@@ -1,0 +1,9 @@
+use Rattle.std.proofs.Common.{Bool, Decides, sym, subst}
+use Rattle.host_kit.specs.Fits.{ScriptFits}
+use Rattle.host_kit.proofs.Decided.{script}
+use Rattle.host_kit.proofs.fitting.fits.Goals as goal
+
+pub returns : goal.returns
+returns c =
+    let P : Bool → Type 0 = λ b. Decides b (ScriptFits c.args.m.now c.args.s.now) in
+    subst P (sym c.script_fits.ensures) (script c.args.m.now c.args.s.now)
