@@ -6,7 +6,7 @@ that is large in one way. Each is written in a size and in four times that size;
 megabytes (8 where none is said). Each is checked, and checked once more with a float in its types, which is refused
 after it was read and walked over once. Prints the CPU time of both in seconds, the ratio of the larger size to the
 smaller one, which is about 4 where time is linear, and the most memory of both for a byte of code; what the first has
-beside the second is the tree of the body and what was needed to type it.
+beside the second was needed to type the body.
 """
 import random
 import sys

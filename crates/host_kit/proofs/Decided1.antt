@@ -67,7 +67,7 @@ module _ (m : Module1) where
   set name v (Some (exports.Global x)) e = changed name v x e (slice_get (all_globals1 m) x) refl
   set name v (Some d) e = (λ h. absurd cc, λ f. absurd cc)
 
-  -- an exported1 memory
+  -- an exported memory
   abbrev HasMemory : List ℕ → Type 0
   HasMemory name = (x : ℕ) × (exported1 m name ≡ Some (exports.Memory x)) × (x < length (all_memories m))
 

@@ -31,7 +31,7 @@ has_type1 v t = false
 abbrev pub have_types1 : List Value → List Ty1 → Bool
 have_types1 vs ts = pairs has_type1 vs ts
 
--- what is exported1 is a function that takes1 the arguments, a global that can be set to the value, or a memory
+-- what is exported is a function that takes the arguments, a global that can be set to the value, or a memory
 abbrev pub takes1 : List Value → Option FuncType1 → Bool
 takes1 arguments None = false
 takes1 arguments (Some type) = have_types1 arguments type.params
@@ -52,7 +52,7 @@ abbrev pub names_memory1 : Module1 → Option ExportDesc1 → Bool
 names_memory1 m (Some (exports.Memory x)) = nat_lt x (length (all_memories m))
 names_memory1 m _ = false
 
--- reading, writing and the other acts
+-- bytes that a host reads or writes at once
 abbrev pub peek_fits1 : Module1 → ℕ → ℕ → Option ExportDesc1 → Bool
 peek_fits1 m at count export = nat_lt at (2 ^ 64) && nat_le count 65536 && names_memory1 m export
 

@@ -29,7 +29,7 @@ ValueHasType1 v t = ⊥
 abbrev pub ValuesHaveTypes1 : List Value → List Ty1 → Type 0
 ValuesHaveTypes1 vs ts = Pairwise ValueHasType1 vs ts
 
--- an exported1 function that takes1 the arguments, an exported1 global that can be set to the value, and an exported1 memory
+-- an exported function that takes the arguments, an exported global that can be set to the value, and an exported memory
 pub record CallFits1 (m : Module1) (name : List ℕ) (arguments : List Value) : Type 0 where
   pub func : ℕ
   pub type : FuncType1

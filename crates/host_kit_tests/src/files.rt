@@ -5,7 +5,7 @@ use std::alloc::Global;
 use std::test::Fail;
 
 /// A text, and the text of why it is no script, or `ok`.
-static TEXTS: [(&[u8], &str); 16] = [
+static TEXTS: [(&[u8], &str); 18] = [
     (
         b"{\"version\":1,\"globals\":[],\"replies\":[],\"grows\":[],\"items\":[]}",
         "ok",
@@ -24,6 +24,14 @@ static TEXTS: [(&[u8], &str); 16] = [
     (b"NaN", "script: not json"),
     (b"7", "script: "),
     (b"{\"version\":2}", "script: /version"),
+    (
+        b"{\"version\":2,\"version\":1,\"globals\":[],\"replies\":[],\"grows\":[],\"items\":[]}",
+        "ok",
+    ),
+    (
+        b"{\"version\":1,\"version\":2,\"globals\":[],\"replies\":[],\"grows\":[],\"items\":[]}",
+        "script: /version",
+    ),
     (
         b"{\"version\":1,\"globals\":[],\"replies\":[[{\"acts\":[],\"values\":7}]],\"grows\":[],\"items\":[]}",
         "script: /replies/0/0/values",

@@ -40,7 +40,7 @@ MarksFit m type zero marks = WordsFit (drop 1 (flat type.results)) marks.further
 MarksFit m type (suc tag) marks = WordsFit (flat (params_of (type_of_tag m tag))) marks.payload
 
 -- a call of a function of this type, of which P holds, beside these globals
-pub record CallFits (m : Module) (called : Option FuncType) (shown : List Value) (P : FuncType → Type 0) : Type 0 where
+pub record ShownCall (m : Module) (called : Option FuncType) (shown : List Value) (P : FuncType → Type 0) : Type 0 where
   pub type : FuncType
   pub named : called ≡ Some type
   pub values : P type
@@ -54,9 +54,9 @@ ResultsFit m results marks type =
 -- an event that a lowered module may show: exceptions and full stores are shown by marks alone
 abbrev pub FitsEvent : Module → Script → Event → Type 0
 FitsEvent m s (events.HostCall j arguments globals) =
-    CallFits m (imported_type m j) globals (λ type. ValuesHaveTypes1 arguments (flat type.params))
-FitsEvent m s (events.Returned i results globals) = CallFits m (called_type m s i) globals (ResultsFit m results (marks_of m globals))
-FitsEvent m s (events.Trapped i globals) = CallFits m (called_type m s i) globals (λ type. Unit {0})
+    ShownCall m (imported_type m j) globals (λ type. ValuesHaveTypes1 arguments (flat type.params))
+FitsEvent m s (events.Returned i results globals) = ShownCall m (called_type m s i) globals (ResultsFit m results (marks_of m globals))
+FitsEvent m s (events.Trapped i globals) = ShownCall m (called_type m s i) globals (λ type. Unit {0})
 FitsEvent m s (events.Uncaught i tag payload globals) = ⊥
 FitsEvent m s events.Full = ⊥
 FitsEvent m s _ = Unit {0}

@@ -1,5 +1,6 @@
 -- How the events of a lowered module become events of the 3.0 module: this project's own mapping, event by event.
 use Rattle.std.specs.Prelude.{ℕ, zero, suc, List, [], ◌∷◌, ◌++◌, map, filter_map, slice_get, Option, Some, None, option_and_then}
+use Rattle.host_kit.specs.Fits.{results_of}
 use Rattle.host_kit.specs.Offered.{exported, func_type}
 use Rattle.host_kit.specs.Trace.{Seen, Told, Answered}
 use Rattle.host_kit.specs.declared.event.Event.{Event}
@@ -42,10 +43,6 @@ called_type m s i = option_and_then (item_type m) (slice_get s.items i)
 abbrev pub params_of : Option FuncType → List Ty
 params_of None = []
 params_of (Some type) = type.params
-
-abbrev pub results_of : Option FuncType → List Ty
-results_of None = []
-results_of (Some type) = type.results
 
 -- the reference that a word stands for: null is 0
 abbrev pub reference : (ℕ → Value) → Value → ℕ → Value

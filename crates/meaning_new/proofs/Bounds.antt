@@ -46,6 +46,13 @@ pub record Roomy (s : State) : Type 0 where
 abbrev pub roomy : Kept State
 roomy = record { Always = Roomy; At = λ j s. NeverFull j; trap = λ s h. tt; stuck = λ s h. tt; branch = λ k i s h. tt }
 
+-- no trace of code shows a full store, within any bounds: that is told by the host, when Full left the code
+abbrev pub Clean : State → Type 0
+Clean s = AllByRecursion NotFull s.trace
+
+abbrev pub clean : Kept State
+clean = record { Always = Clean; At = λ j s. Unit {0}; trap = λ s h. tt; stuck = λ s h. tt; branch = λ k i s h. tt }
+
 -- there is room for N captures: no more are made, and code leaves by Full after exactly as many
 abbrev pub AtFull : ℕ → Jump → State → Type 0
 AtFull N Full s = captured s.trace ≡ N
@@ -147,6 +154,10 @@ roomy_after : (s : State) (r : PlainRes Val State) → Even s (state_after r) �
 roomy_after s (Go p) e n h = roomy_even s p.state e h
 roomy_after s (Leave j p) e n h = record { always = roomy_even s p.state e h; at_jump = not_full_at j n }
 
+clean_after : (s : State) (r : PlainRes Val State) → Even s (state_after r) → Clean s → PlainAfter clean r
+clean_after s (Go p) e h = e.not_full h
+clean_after s (Leave j p) e h = record { always = e.not_full h; at_jump = tt }
+
 counted_after : (N : ℕ) (s : State) (r : PlainRes Val State) → Even s (state_after r) → LeavesNotFull r → Counted N s → PlainAfter (counted N) r
 counted_after N s (Go p) e n h = counted_even N s p.state e h
 counted_after N s (Leave j p) e n h = record { always = counted_even N s p.state e h; at_jump = not_full_count N j p.state n }
@@ -162,6 +173,9 @@ module _ (act : Plain Val State → PlainRes Val State) (h : EvenAct act) where
 
   pub even_roomy : Keeps roomy act
   even_roomy p k = roomy_after p.state (act p) (h.even p) (h.not_full p) k
+
+  pub even_clean : Keeps clean act
+  even_clean p k = clean_after p.state (act p) (h.even p) k
 
   pub even_counted : (N : ℕ) → Keeps (counted N) act
   even_counted N p k = counted_after N p.state (act p) (h.even p) (h.not_full p) k

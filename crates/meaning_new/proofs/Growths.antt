@@ -15,7 +15,7 @@ use Rattle.evaluation_kit.proofs.Cutting.{ActCuts, bound_plain, bounded_plain}
 use Rattle.meaning_new.specs.declared.val.Val.{Val}
 use Rattle.meaning_new.specs.Store.{Store, State, Growth, sizes, is_granted, settled_growth, growth_or_trap, on_growth}
 use Rattle.meaning_new.proofs.Even.{NotFull, redial, all_append}
-use Rattle.meaning_new.proofs.Bounds.{order, roomy, Roomy, counted, Counted, answering, bounding, Open, Parted, any_sizes, any_room}
+use Rattle.meaning_new.proofs.Bounds.{order, roomy, Roomy, clean, Clean, counted, Counted, answering, bounding, Open, Parted, any_sizes, any_room}
 
 no_more : (xs ys : List Bool) → xs ≡ xs ++ ys → ys ≡ []
 no_more xs ys e = sym (append_cancel_left xs [] ys (append-nil xs ∙ e))
@@ -40,6 +40,11 @@ growth_roomy p (Some g) h = record {
   room = h.room;
   clean = all_append NotFull p.state.trace (Grown (is_granted g p.state) (sizes (after (is_granted g p.state) g p.state.store))) h.clean (λ e. cc);
 }
+
+growth_clean : (p : Plain Val State) (o : Option Growth) → Clean p.state → PlainAfter clean (growth_or_trap p o)
+growth_clean p None h = record { always = h; at_jump = tt }
+growth_clean p (Some g) h =
+    all_append NotFull p.state.trace (Grown (is_granted g p.state) (sizes (after (is_granted g p.state) g p.state.store))) h (λ e. cc)
 
 growth_counted : (N : ℕ) (p : Plain Val State) (o : Option Growth) → Counted N p.state → PlainAfter (counted N) (growth_or_trap p o)
 growth_counted N p None h = record { always = h; at_jump = tt }
@@ -96,6 +101,9 @@ module _ (f : List Val → Store → Option Growth) where
 
   pub grow_roomy : Keeps roomy (on_growth f)
   grow_roomy p h = growth_roomy p (f p.operands p.state.store) h
+
+  pub grow_clean : Keeps clean (on_growth f)
+  grow_clean p h = growth_clean p (f p.operands p.state.store) h
 
   pub grow_counted : (N : ℕ) → Keeps (counted N) (on_growth f)
   grow_counted N p h = growth_counted N p (f p.operands p.state.store) h

@@ -19,7 +19,7 @@ use Rattle.meaning_new.specs.declared.val.Val.{Val}
 use Rattle.meaning_new.specs.Store.{State, Exception, mark}
 use Rattle.meaning_new.specs.Exceptions.{catch, catch_ref, caught_ref, caught_by, caught, takes, handler}
 use Rattle.meaning_new.proofs.Even.{NotFull, redial, all_append}
-use Rattle.meaning_new.proofs.Bounds.{order, roomy, Roomy, counted, Counted, answering, bounding, Open, Parted, any_sizes, any_room}
+use Rattle.meaning_new.proofs.Bounds.{order, roomy, Roomy, clean, Clean, counted, Counted, answering, bounding, Open, Parted, any_sizes, any_room}
 
 -- what a law says of an exception that is caught, as a function of the state in which it is
 abbrev Catcher : Type 0
@@ -87,6 +87,20 @@ way_roomy (by_reference e label operands) s r = ref_roomy (s.room (captured s.tr
 pub handler_roomy : (clauses : List Catch) (e : ℕ) (s : State) → After roomy (Some (Throw e)) s → CaughtKeeps roomy (handler clauses e s)
 handler_roomy clauses e s h =
     subst (λ k. CaughtKeeps roomy k) (handler_is (slice_get s.store.exceptions e) clauses e s) (way_roomy (way (slice_get s.store.exceptions e) clauses e) s h.always)
+
+-- a full store is not told by a handler
+ref_clean : (b : Bool) (e label : ℕ) (operands : List Val) (s : State) → Clean s → CaughtKeeps clean (caught_ref b e label operands s)
+ref_clean true e label operands s h = record { always = all_append NotFull s.trace Captured h (λ eq. cc); at_jump = tt }
+ref_clean false e label operands s h = record { always = h; at_jump = tt }
+
+way_clean : (w : Way) (s : State) → Clean s → CaughtKeeps clean (by_way w s)
+way_clean passes s h = tt
+way_clean (plainly label operands) s h = record { always = h; at_jump = tt }
+way_clean (by_reference e label operands) s h = ref_clean (s.room (captured s.trace)) e label operands s h
+
+pub handler_clean : (clauses : List Catch) (e : ℕ) (s : State) → After clean (Some (Throw e)) s → CaughtKeeps clean (handler clauses e s)
+handler_clean clauses e s h =
+    subst (λ k. CaughtKeeps clean k) (handler_is (slice_get s.store.exceptions e) clauses e s) (way_clean (way (slice_get s.store.exceptions e) clauses e) s h.always)
 
 -- captures are counted
 less : (k N : ℕ) → nat_lt k N ≡ true → k + 1 ≤ N

@@ -37,25 +37,25 @@ abbrev redial_status : List Bool → (List ℕ → Bool) → (ℕ → Bool) → 
 redial_status g permits room (Go s) = Go (redial g permits room s)
 redial_status g permits room (Leave j s) = Leave j (redial g permits room s)
 
-abbrev StatusNotFull : Status State → Type 0
+abbrev pub StatusNotFull : Status State → Type 0
 StatusNotFull (Go s) = Unit {0}
 StatusNotFull (Leave j s) = j ≡ Full → ⊥
 
 -- a status that the host makes of a state, here and within other bounds
-record StatusHere (s : State) (here : Status State) (there : List Bool → (List ℕ → Bool) → (ℕ → Bool) → Status State) : Type 0 where
-  even : Even s (status_state here)
-  redialed : (g : List Bool) (permits : List ℕ → Bool) (room : ℕ → Bool) → there g permits room ≡ redial_status g permits room here
-  not_full : StatusNotFull here
+pub record StatusHere (s : State) (here : Status State) (there : List Bool → (List ℕ → Bool) → (ℕ → Bool) → Status State) : Type 0 where
+  pub even : Even s (status_state here)
+  pub redialed : (g : List Bool) (permits : List ℕ → Bool) (room : ℕ → Bool) → there g permits room ≡ redial_status g permits room here
+  pub not_full : StatusNotFull here
 
-record EvenChange (f : State → Status State) : Type 0 where
-  change : (s : State) → StatusHere s (f s) (λ g permits room. f (redial g permits room s))
+pub record EvenChange (f : State → Status State) : Type 0 where
+  pub change : (s : State) → StatusHere s (f s) (λ g permits room. f (redial g permits room s))
 
 -- what becomes of the result of a call: that Full left the code is told as it is
-record EvenShown (see : PlainRes Val State → Status State) : Type 0 where
-  other : (r : PlainRes Val State) → LeavesNotFull r → StatusHere (state_after r) (see r) (λ g permits room. see (redial_res g permits room r))
-  full : (p : Plain Val State) → see (Leave Full p) ≡ Leave Full (tell events.Full p.state)
+pub record EvenShown (see : PlainRes Val State → Status State) : Type 0 where
+  pub other : (r : PlainRes Val State) → LeavesNotFull r → StatusHere (state_after r) (see r) (λ g permits room. see (redial_res g permits room r))
+  pub full : (p : Plain Val State) → see (Leave Full p) ≡ Leave Full (tell events.Full p.state)
 
-abbrev TaskIs : Task Val State → Type 0
+abbrev pub TaskIs : Task Val State → Type 0
 TaskIs (Change f) = EvenChange f
 TaskIs (Enter x operands see) = EvenShown see
 
@@ -111,7 +111,7 @@ begun_are : (m : Module) (script : Script) (o : Option ℕ) → AllByRecursion T
 begun_are m script None = (record { change = λ s. told_here events.Started s (λ e. cc) }, items_are m 0 script.items)
 begun_are m script (Some x) = (record { other = started_here; full = λ p. refl }, (record { change = λ s. told_here events.Started s (λ e. cc) }, items_are m 0 script.items))
 
-tasks_are : (m : Module) (script : Script) → AllByRecursion TaskIs (run_tasks m script)
+pub tasks_are : (m : Module) (script : Script) → AllByRecursion TaskIs (run_tasks m script)
 tasks_are m script = (record { change = λ s. placed_here (place_segments m s.store) s }, begun_are m script m.start)
 
 each : {A : Type 0} (P Q : A → Type 0) → ((a : A) → P a → Q a) → (l : List A) → AllByRecursion P l → AllByRecursion Q l
@@ -119,7 +119,7 @@ each P Q f [] h = tt
 each P Q f (a ∷ more) h = (f a h.0, each P Q f more h.1)
 
 -- a result that Full left, and the others
-full_or_not : (r : PlainRes Val State) → LeavesNotFull r ⊎ ((p : Plain Val State) × (r ≡ Leave Full p))
+pub full_or_not : (r : PlainRes Val State) → LeavesNotFull r ⊎ ((p : Plain Val State) × (r ≡ Leave Full p))
 full_or_not (Go p) = inl tt
 full_or_not (Leave Full p) = inr (p, refl)
 full_or_not (Leave (jumps.Branch k) p) = inl (λ e. cc)

@@ -5,5 +5,6 @@ pub mod Growths
 pub mod Handlers
 pub mod Owed
 pub mod HostTasks
+pub mod FullEnds
 pub mod RunLaws
 pub mod Layers

@@ -28,9 +28,9 @@ use Rattle.meaning_new.specs.Forms.{layer, callee, callee_of_type, function, imp
 use Rattle.meaning_new.specs.Language.{language}
 use Rattle.meaning_new.proofs.Even.{EvenAct, redial_plain}
 use Rattle.meaning_new.proofs.EvenLeaves.{even_operands, even_store, even_nothing, even_get, even_set, even_tee, even_jump, even_branch_if, even_branch_table, even_tail, even_throw, even_throw_ref, even_host}
-use Rattle.meaning_new.proofs.Bounds.{order, roomy, counted, answering, bounding, any_sizes, any_room, even_leads, even_roomy, even_counted, even_replays, even_cuts}
-use Rattle.meaning_new.proofs.Growths.{grow_leads, grow_roomy, grow_counted, grow_replays, grow_cuts}
-use Rattle.meaning_new.proofs.Handlers.{handler_leads, handler_roomy, handler_counted, handler_replays, handler_cuts}
+use Rattle.meaning_new.proofs.Bounds.{order, roomy, clean, counted, answering, bounding, any_sizes, any_room, even_leads, even_roomy, even_clean, even_counted, even_replays, even_cuts}
+use Rattle.meaning_new.proofs.Growths.{grow_leads, grow_roomy, grow_clean, grow_counted, grow_replays, grow_cuts}
+use Rattle.meaning_new.proofs.Handlers.{handler_leads, handler_roomy, handler_clean, handler_counted, handler_replays, handler_cuts}
 
 -- an instruction that grows a memory or a table
 record Grows (act : Plain Val State → PlainRes Val State) : Type 0 where
@@ -146,6 +146,24 @@ callee_roomy (Some (Host n act)) e = even_roomy act e
 
 pub owes_roomy : (m : Module) → Owes (language m) (keeping roomy)
 owes_roomy m = keeping_owes roomy (language m) (λ X l. form_roomy (layer m X l) (forms_are m X l)) (λ x. callee_roomy (callee m x) (callees_are m x))
+
+form_clean : {X : Type 0} (form : Form Val State X) → FormIs form → FormKeeps clean form
+form_clean (Flat act) (inl e) = even_clean act e
+form_clean (Flat act) (inr g) = subst (λ a. Keeps clean a) g.is_growth (grow_clean g.growth)
+form_clean (Guard p r h body) e = subst (λ k. (x : ℕ) (s : State) → After clean (Some (jumps.Throw x)) s → CaughtKeeps clean (k x s)) e.1 (handler_clean e.0)
+form_clean (InvokeBy n pick) e = tt
+form_clean (Enclose p r body) e = tt
+form_clean (Repeat p r body) e = tt
+form_clean (Choose test p r one other) e = tt
+form_clean (Invoke n x) e = tt
+
+callee_clean : (o : Option (Callee Instr Val State)) → CalleeIs o → CalleeKeeps clean o
+callee_clean None e = tt
+callee_clean (Some (Own f)) e = tt
+callee_clean (Some (Host n act)) e = even_clean act e
+
+pub owes_clean : (m : Module) → Owes (language m) (keeping clean)
+owes_clean m = keeping_owes clean (language m) (λ X l. form_clean (layer m X l) (forms_are m X l)) (λ x. callee_clean (callee m x) (callees_are m x))
 
 form_counted : (N : ℕ) {X : Type 0} (form : Form Val State X) → FormIs form → FormKeeps (counted N) form
 form_counted N (Flat act) (inl e) = even_counted act e N

@@ -29,8 +29,9 @@ use Rattle.meaning_new.specs.Language.{language}
 use Rattle.meaning_new.specs.Runs.{run_tasks, trace, depth, bounded_trace, bounded_depth}
 use Rattle.meaning_new.specs.RunLaws.{Stopped}
 use Rattle.meaning_new.proofs.Even.{NotFull}
-use Rattle.meaning_new.proofs.Bounds.{order, roomy, Roomy, counted, Counted, answering, bounding, any_sizes, any_room}
+use Rattle.meaning_new.proofs.Bounds.{order, roomy, Roomy, Clean, counted, Counted, answering, bounding, any_sizes, any_room}
 use Rattle.meaning_new.proofs.Owed.{owes_growing, owes_roomy, owes_counted, owes_replaying, owes_cutting}
+use Rattle.meaning_new.proofs.FullEnds.{Once, OnceAt, Ends, run_ends, full_stops}
 use Rattle.meaning_new.proofs.HostTasks.{tasks_lead, tasks_roomy, tasks_counted, tasks_replay, tasks_cut}
 
 -- a run: its outcome, and where it begins
@@ -86,12 +87,16 @@ place_roomy (Halt w) h = h.always
 begins_roomy : (m : Module) (s : Script) → Roomy (new_state any_sizes any_room false m s)
 begins_roomy m s = record { room = λ k. refl; clean = tt }
 
+run_clean : (m : Module) (s : Script) (n : ℕ) → Clean (place_of status_at (out m s n (begin any_sizes any_room m s))).state
+run_clean m s n =
+    let w = begin any_sizes any_room m s in
+    (place_roomy (out m s n w) (run_roomy m s n w (begins_roomy m s))).clean
+
 pub trace_not_full : (m : Module) (s : Script) (n : ℕ) → Contains (trace m s n) (Shows events.Full) → ⊥
 unfolding trace
 trace_not_full m s n h =
     let w = begin any_sizes any_room m s in
-    let clean = (place_roomy (out m s n w) (run_roomy m s n w (begins_roomy m s))).clean in
-    All-from_recursion NotFull (place_of status_at (out m s n w)).state.trace clean h.0 (Shows events.Full) h.1 h.2
+    All-from_recursion NotFull (place_of status_at (out m s n w)).state.trace (run_clean m s n) h.0 (Shows events.Full) h.1 h.2
 
 -- captures are counted
 run_counted : (N : ℕ) (m : Module) (s : Script) (n : ℕ) (w : World State) → Counted N w.state → Leaves (counted N) status_place (out m s n w)
@@ -134,15 +139,14 @@ freed_place t (Done u (Go w)) = refl
 freed_place t (Done u (Leave j w)) = refl
 freed_place t (Halt w) = refl
 
-past_stops : (o free : Out (World State) (Status (World State))) → Past answering status_place o free → Stopped (place_of status_at o).state.trace (place_of status_at free).state.trace
-past_stops (Done u r) free p = record {
-  before = p.1.before;
-  fulls = p.1.fulls;
-  all_full = p.1.all_full;
-  stopped = p.1.stopped;
-  further = p.1.further;
-}
-past_stops (Halt w) free p = absurd p
+past_stops : (o free : Out (World State) (Status (World State))) → Ends o → Clean (place_of status_at free).state → Past answering status_place o free → Stopped (place_of status_at o).state.trace (place_of status_at free).state.trace
+past_stops (Done u (Go w)) free h k p = let no : None ≡ Some Full = p.0 in absurd cc
+past_stops (Done u (Leave j w)) free h k p = full_stops w.state (place_of status_at free).state (at_full j w.state h p.0) p.1 k
+  where
+    at_full : (i : Jump) (s : State) → OnceAt i s → Some i ≡ Some Full → Once s
+    at_full Full s once e = once
+    at_full i s once e = absurd cc
+past_stops (Halt w) free h k p = absurd p
 
 never_past : (o free : Out (World State) (Status (World State))) → Leaves roomy status_place o → Past answering status_place o free → ⊥
 never_past (Done u (Go w)) free h p = let no : None ≡ Some Full = p.0 in absurd cc
@@ -172,13 +176,23 @@ module _ (permits : List ℕ → Bool) (room : ℕ → Bool) (m : Module) (s : S
   same_place : free_out ≡ freed answering status_place more bounded_out → place_of status_at free_out ≡ free_world answering more (place_of status_at bounded_out)
   same_place e = ap (place_of status_at) e ∙ freed_place more bounded_out
 
+  bounded_ends : Ends bounded_out
+  unfolding bounded_out
+  bounded_ends = run_ends m s n (begin permits room m s) tt
+
+  free_clean : Clean (place_of status_at free_out).state
+  unfolding free_out
+  free_clean =
+      let own = regrow (answers (seen (place_of status_at (out m s n (begin permits room m s))).state.trace) ++ more) s in
+      run_clean m own n
+
   pub bounded_run : ((trace m (regrow (answers (seen (bounded_trace permits room m s n)) ++ more) s) n ≡ bounded_trace permits room m s n) × (depth m (regrow (answers (seen (bounded_trace permits room m s n)) ++ more) s) n ≡ bounded_depth permits room m s n)) ⊎ Stopped (bounded_trace permits room m s n) (trace m (regrow (answers (seen (bounded_trace permits room m s n)) ++ more) s) n)
   unfolding trace depth bounded_trace bounded_depth bounded_out free_out
   bounded_run = by_case replayed
     where
       by_case : Replayed answering status_place more bounded_out free_out → (((place_of status_at free_out).state.trace ≡ (place_of status_at bounded_out).state.trace) × ((place_of status_at free_out).deepest ≡ (place_of status_at bounded_out).deepest)) ⊎ Stopped (place_of status_at bounded_out).state.trace (place_of status_at free_out).state.trace
       by_case (inl e) = inl (ap (λ (w : World State). w.state.trace) (same_place e), ap (λ (w : World State). w.deepest) (same_place e))
-      by_case (inr p) = inr (past_stops bounded_out free_out p)
+      by_case (inr p) = inr (past_stops bounded_out free_out bounded_ends free_clean p)
 
 -- without bounds a run never stops so
 module _ (m : Module) (s : Script) (n : ℕ) (more : List Bool) where

@@ -1,9 +1,7 @@
 -- What every run keeps, for every module, script and number of turns, typed and fitting or not.
-use Rattle.std.specs.Prelude.{◌≡◌, ℕ, ◌≤◌, ◌⊎◌, nat_lt, List, [], ◌∷◌, ◌++◌, map, Bool, Contains}
-use Rattle.std.specs.List.{AllByRecursion}
+use Rattle.std.specs.Prelude.{◌≡◌, ℕ, ◌≤◌, ◌⊎◌, nat_lt, List, [], ◌∷◌, ◌++◌, Bool, Contains}
 use Rattle.host_kit.specs.Trace.{Mark, Shows, Captured, Begins, seen, answers, captured, cut}
 use Rattle.host_kit.specs.Scripts.{regrow}
-use Rattle.host_kit.specs.declared.event.Event.{Event}
 use Rattle.host_kit.specs.declared.event.Event.TheVariants.{Full}
 use Rattle.host_kit.specs.declared.script.Script.{Script}
 use Rattle.wasm_ast.specs.declared.module.parts.Module.{Module}
@@ -44,13 +42,11 @@ ReplaysTrace = (m : Module) (s : Script) (n : ℕ) (more : List Bool) → trace 
 abbrev pub ReplaysDepth : Type 0
 ReplaysDepth = (m : Module) (s : Script) (n : ℕ) (more : List Bool) → depth m (regrow (answers (seen (trace m s n)) ++ more) s) n ≡ depth m s n
 
--- a bounded run stopped, and what it shows last is that the store is full; the run without bounds goes on from there with
+-- a bounded run stopped, and shows one thing more, that the store is full; the run without bounds goes on from there with
 -- one capture more
 pub record Stopped (bounded free : List Mark) : Type 0 where
   pub before : List Mark
-  pub fulls : List Event
-  pub all_full : AllByRecursion (λ e. e ≡ Full) fulls
-  pub stopped : bounded ≡ before ++ map Shows fulls
+  pub stopped : bounded ≡ before ++ Shows Full ∷ []
   pub further : Begins (before ++ Captured ∷ []) free
 
 -- the run without bounds, under the answers that the bounded run gave itself and any that follow, is the bounded run, or

@@ -3,7 +3,7 @@
 //!
 //! A version says by a `Language` how single instructions are spelled, and this crate how they nest.
 //! `specs/Nesting.antt` has the grammar, "Expressions" of the standard, and its reading over a stack of open blocks,
-//! and `specs/Depth.antt` how deeply code nests. `read_expr` builds the code, `measure_expr` only goes over it.
+//! and `specs/Sizes.antt` how deeply code nests. `read_expr` builds the code, `measure_expr` only goes over it.
 //! A version cites `proofs/Exactness.antt` for its forms, `proofs/Leaves.antt` for the depth of its instructions,
 //! and `proofs/Appending.antt` for what it writes.
 #![tactic(auto)]

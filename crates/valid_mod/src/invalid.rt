@@ -9,10 +9,10 @@ use thiserror::Error;
 pub enum Invalid {
     /// The part at this place of the section with this id is the first that is not typed: of two exports with one name
     /// the later. The start is place 0. The section of tags, 13, stands between those of memories and of globals.
-    #[error("part")]
+    #[error("part {section} {index}")]
     Part { section: u8, index: u32 },
     /// All parts are typed, and the body at this place is the first that is not.
-    #[error("body")]
+    #[error("body {0}")]
     Body(u32),
     /// Memory was not found. A place of 2^32 or more is one that no answer has room for.
     #[error("out of memory")]

@@ -21,7 +21,6 @@ mod values;
 mod widths;
 
 pub use annotating::{Fault, annotate, annotate_body, annotate_func};
-pub use body::type_code;
 pub use checking::is_func_typed;
 pub use deciding::is_code_typed;
 pub use scope::{Scope, Spaces};
