@@ -1,0 +1,18 @@
+use Rattle.std.proofs.Common.{◌∷◌, ◌∙◌, ap, refl, length, drop}
+use Rattle.machine_kit.specs.declared.frame.Frame.TheVariants as frames
+use Rattle.machine_kit.specs.declared.frame.Flow.TheVariants as flows
+use Rattle.machine_kit.specs.Stacks.{Stack}
+use Rattle.machine_kit.specs.Machines.{place_of}
+use Rattle.machine_kit.proofs.Moves.{moves_to, before, same_place, put_aside, choice_moves}
+use Rattle.machine_kit.proofs.exec.run_choice.Goals as goal
+
+pub returns : goal.returns
+returns g c s =
+    let v = g.P.Version.acts c.args.version.now in
+    let a = place_of c.args.machine.now in
+    moves_to v flows.Run flows.Run (before v (g.met.P.Version.laws c.args.version.now) a c.args.instr.now c.args.rest) _ _ s s
+    (same_place _ _ _ _ _ _ _ _ refl
+    (c.set_aside-aside.ensures.stack ∙ ap (put_aside c.args.takes) c.drop_top.ensures) refl
+    (c.in_ok-open.ensures
+    ∙ ap (λ n. frames.Block c.args.gives n c.args.rest ∷ a.frames) (c.set_aside-aside.ensures.aside ∙ ap (λ (o : Stack _). length (drop c.args.takes o.used)) c.drop_top.ensures)))
+    (choice_moves v (g.met.P.Version.laws c.args.version.now) a c.args.instr.now c.args.rest c.args.first.now c.args.second.now c.either-machine.result.now c.test-holds.result c.args.takes c.args.gives s c.requires c.test-holds.ensures c.either-machine.ensures)

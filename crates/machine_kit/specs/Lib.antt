@@ -1,0 +1,10 @@
+pub mod Acts
+pub mod Calls
+pub mod Closings
+pub mod Exits
+pub mod Heads
+pub mod Machines
+pub mod Pending
+pub mod Stacks
+pub mod Turning
+pub mod Whole

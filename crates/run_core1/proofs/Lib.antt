@@ -1,0 +1,9 @@
+pub mod Replies
+pub mod LastValue
+pub mod Fitting
+pub mod Entries
+pub mod Places
+pub mod Called
+pub mod WholeRun
+pub mod TypedConstants
+pub mod Seen
