@@ -1,4 +1,4 @@
-// The integer operators as calls, on rows of the standard's test suite.
+// The integer operators as calls, on rows like those of the standard's test suite, whose values were computed apart.
 
 use num_core::operations::{binary, compare, convert, eqz, unary};
 use num_core::operators::{Bin, Cmp, Conv, Un, Width};
