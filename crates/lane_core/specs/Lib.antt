@@ -4,3 +4,4 @@ pub mod LaneNumbers
 pub mod Rearranging
 pub mod Operators
 pub mod Memory
+pub mod Rows
