@@ -1,14 +1,15 @@
 -- What the code of a core module does: it makes numbers of numbers, and its lowered code makes the same. Neither traps,
 -- jumps or takes a turn.
-use Rattle.std.proofs.Common.{◌≡◌, ℕ, zero, suc, ◌+◌, ◌<◌, ◌^◌, List, [], ◌∷◌, ◌++◌, map, length, Some, slice_get, refl, sym, subst, ap, ◌∙◌, arith, length-append}
+use Rattle.std.proofs.Common.{◌≡◌, ℕ, zero, suc, ◌+◌, ◌*◌, ◌<◌, ◌%◌, ◌^◌, List, [], ◌∷◌, ◌++◌, map, length, Some, slice_get, refl, sym, subst, ap, ◌∙◌, arith, length-append, lit<}
 use Rattle.std.specs.List.{AllByRecursion, flat_map}
 use Rattle.std.proofs.lemmas.List.{map-append}
-use Rattle.num_core.specs.Integers.{add_of, shift_left, shift_right_signed, convert, width_from, width_to}
+use Rattle.std.proofs.Math.Nat.{mod-eq_of_lt, mod-mod}
+use Rattle.num_core.specs.Integers.{wrap, add_of, shift_left, shift_right_signed, convert, width_from, width_to}
 use Rattle.num_core.specs.declared.operators.Bin.TheVariants.{Add, Shl, ShrS}
 use Rattle.num_core.specs.declared.operators.Conv.{Conv}
 use Rattle.num_core.specs.declared.operators.Conv.TheVariants.{S8of32, S16of32}
 use Rattle.num_core.specs.declared.operators.Width.TheVariants.{W32}
-use Rattle.num_core.proofs.Ranges.{binary_below, convert_below}
+use Rattle.num_core.proofs.Ranges.{wrap_below, binary_below, convert_below}
 use Rattle.num_core.proofs.Shifts.{shifts_extend8, shifts_extend16}
 use Rattle.wasm_ast.specs.declared.module.ty.Ty.{Ty}
 use Rattle.wasm_ast.specs.declared.module.ty.Ty.TheVariants as types
@@ -120,35 +121,43 @@ makes_constant k l ns = record {
   in_target = λ m funcs d n w. one_more (language1 m) funcs _ [] d n _ _ (target_pure m funcs (target_op.I32Const k) d n (target_at ns l w));
 }
 
-makes_sum : (i j l : ℕ) (ns : List ℕ) → Makes (source.Pure (source_op.Binary W32 Add) ∷ []) (lowered_instruction (source.Pure (source_op.Binary W32 Add))) l (j ∷ (i ∷ ns)) (add_of 32 i j ∷ ns)
+makes_sum : (i j l : ℕ) (ns : List ℕ) → Makes (source.Pure (source_op.Binary W32 Add) ∷ []) (lowered_instruction (source.Pure (source_op.Binary W32 Add))) l (j ∷ (i ∷ ns)) (add_of 32 (wrap 32 i) (wrap 32 j) ∷ ns)
 makes_sum i j l ns = record {
   in_source = λ m funcs d n w. one_more (language m) funcs _ [] d n _ _ (source_pure m funcs (source_op.Binary W32 Add) d n (source_at (j ∷ (i ∷ ns)) l w));
   in_target = λ m funcs d n w. one_more (language1 m) funcs _ [] d n _ _ (target_pure m funcs (target_op.Binary W32 Add) d n (target_at (j ∷ (i ∷ ns)) l w));
 }
 
 -- two shifts to the left and back, by so many bits
-makes_shifts : (k i l : ℕ) (ns : List ℕ) (m : Module1) (funcs : ℕ → Sem Val1 State1) (d n : ℕ) (w : World State1) → code_with (language1 m) funcs (shifts_by k) d n (target_at (i ∷ ns) l w) ≡ Done 0 (Go (target_at (shift_right_signed 32 (shift_left 32 i k) k ∷ ns) l w))
+abbrev shifted : ℕ → ℕ → ℕ
+shifted k i = shift_right_signed 32 (wrap 32 (shift_left 32 (wrap 32 i) (wrap 32 k))) (wrap 32 k)
+
+shifted_is : (k i : ℕ) → k < 2 ^ 32 → shifted k i ≡ shift_right_signed 32 (shift_left 32 (wrap 32 i) k) k
+shifted_is k i fits =
+    ap (λ n. shift_right_signed 32 (wrap 32 (shift_left 32 (wrap 32 i) n)) n) (mod-eq_of_lt {n = k} {m = 2 ^ 32} fits)
+    ∙ ap (λ x. shift_right_signed 32 x k) (mod-mod (wrap 32 i * 2 ^ (k % 32)) (2 ^ 32))
+
+makes_shifts : (k i l : ℕ) (ns : List ℕ) (m : Module1) (funcs : ℕ → Sem Val1 State1) (d n : ℕ) (w : World State1) → code_with (language1 m) funcs (shifts_by k) d n (target_at (i ∷ ns) l w) ≡ Done 0 (Go (target_at (shifted k i ∷ ns) l w))
 makes_shifts k i l ns m funcs d n w =
     let right = target.Pure (target_op.Binary W32 ShrS) in
     let left = target.Pure (target_op.Binary W32 Shl) in
     let count = target.Pure (target_op.I32Const k) in
     one_more (language1 m) funcs count (left ∷ (count ∷ (right ∷ []))) d n _ _ (target_pure m funcs (target_op.I32Const k) d n (target_at (i ∷ ns) l w))
     ∙ one_more (language1 m) funcs left (count ∷ (right ∷ [])) d n _ _ (target_pure m funcs (target_op.Binary W32 Shl) d n (target_at (k ∷ (i ∷ ns)) l w))
-    ∙ one_more (language1 m) funcs count (right ∷ []) d n _ _ (target_pure m funcs (target_op.I32Const k) d n (target_at (shift_left 32 i k ∷ ns) l w))
-    ∙ one_more (language1 m) funcs right [] d n _ _ (target_pure m funcs (target_op.Binary W32 ShrS) d n (target_at (k ∷ (shift_left 32 i k ∷ ns)) l w))
+    ∙ one_more (language1 m) funcs count (right ∷ []) d n _ _ (target_pure m funcs (target_op.I32Const k) d n (target_at (shift_left 32 (wrap 32 i) (wrap 32 k) ∷ ns) l w))
+    ∙ one_more (language1 m) funcs right [] d n _ _ (target_pure m funcs (target_op.Binary W32 ShrS) d n (target_at (k ∷ (shift_left 32 (wrap 32 i) (wrap 32 k) ∷ ns)) l w))
 
 -- a result in place of another
 with_top : (code : List Instr1) (l i j : ℕ) (ns ms : List ℕ) (m : Module1) (funcs : ℕ → Sem Val1 State1) (d n : ℕ) (w : World State1) → i ≡ j → code_with (language1 m) funcs code d n (target_at ms l w) ≡ Done 0 (Go (target_at (i ∷ ns) l w)) → code_with (language1 m) funcs code d n (target_at ms l w) ≡ Done 0 (Go (target_at (j ∷ ns) l w))
 with_top code l i j ns ms m funcs d n w same e = e ∙ ap (λ k. Done 0 (Go (target_at (k ∷ ns) l w))) same
 
-pub makes_extension : (op : Conv) (i l : ℕ) (ns : List ℕ) → width_from op ≡ W32 → width_to op ≡ W32 → Makes (source.Pure (source_op.Convert op) ∷ []) (lowered_instruction (source.Pure (source_op.Convert op))) l (i ∷ ns) (convert op i ∷ ns)
+pub makes_extension : (op : Conv) (i l : ℕ) (ns : List ℕ) → width_from op ≡ W32 → width_to op ≡ W32 → Makes (source.Pure (source_op.Convert op) ∷ []) (lowered_instruction (source.Pure (source_op.Convert op))) l (i ∷ ns) (convert op (wrap 32 i) ∷ ns)
 makes_extension S8of32 i l ns from to = record {
   in_source = λ m funcs d n w. one_more (language m) funcs _ [] d n _ _ (source_pure m funcs (source_op.Convert S8of32) d n (source_at (i ∷ ns) l w));
-  in_target = λ m funcs d n w. with_top (shifts_by 24) l _ _ ns (i ∷ ns) m funcs d n w (shifts_extend8 i) (makes_shifts 24 i l ns m funcs d n w);
+  in_target = λ m funcs d n w. with_top (shifts_by 24) l _ _ ns (i ∷ ns) m funcs d n w (shifted_is 24 i (lit< tt) ∙ shifts_extend8 (wrap 32 i)) (makes_shifts 24 i l ns m funcs d n w);
 }
 makes_extension S16of32 i l ns from to = record {
   in_source = λ m funcs d n w. one_more (language m) funcs _ [] d n _ _ (source_pure m funcs (source_op.Convert S16of32) d n (source_at (i ∷ ns) l w));
-  in_target = λ m funcs d n w. with_top (shifts_by 16) l _ _ ns (i ∷ ns) m funcs d n w (shifts_extend16 i) (makes_shifts 16 i l ns m funcs d n w);
+  in_target = λ m funcs d n w. with_top (shifts_by 16) l _ _ ns (i ∷ ns) m funcs d n w (shifted_is 16 i (lit< tt) ∙ shifts_extend16 (wrap 32 i)) (makes_shifts 16 i l ns m funcs d n w);
 }
 makes_extension _ i l ns from to = absurd cc
 
@@ -185,18 +194,18 @@ module _ (l : ℕ) (fits_l : l < 2 ^ 32) where
   step_sum [] b many h = absurd (omega (arith, many))
   step_sum (j ∷ []) b many h = absurd (omega (arith, many))
   step_sum (j ∷ (i ∷ ns)) b many h = record {
-    results = add_of 32 i j ∷ ns;
+    results = add_of 32 (wrap 32 i) (wrap 32 j) ∷ ns;
     many = omega (arith, many);
-    below = (binary_below W32 i j (add_of 32 i j) h.1.0 h.0 Add refl, h.1.1);
+    below = (binary_below W32 (wrap 32 i) (wrap 32 j) (add_of 32 (wrap 32 i) (wrap 32 j)) (wrap_below 32 i) (wrap_below 32 j) Add refl, h.1.1);
     makes = makes_sum i j l ns;
   }
 
   step_extension : (op : Conv) (ns : List ℕ) (b : ℕ) → width_from op ≡ W32 → width_to op ≡ W32 → length ns ≡ b + 1 → AllByRecursion Below ns → Step (source.Pure (source_op.Convert op)) ns (b + 1)
   step_extension op [] b from to many h = absurd (omega (arith, many))
   step_extension op (i ∷ ns) b from to many h = record {
-    results = convert op i ∷ ns;
+    results = convert op (wrap 32 i) ∷ ns;
     many = omega (arith, many);
-    below = (extension_below op i from to h.0, h.1);
+    below = (extension_below op (wrap 32 i) from to (wrap_below 32 i), h.1);
     makes = makes_extension op i l ns from to;
   }
 

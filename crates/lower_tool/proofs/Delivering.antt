@@ -1,69 +1,128 @@
 -- What a command has made, handed out.
-use Rattle.std.proofs.Common.{◌≡◌, ℕ, List, [], ◌∷◌, Bool, true, false, ap, sym, ◌∙◌, subst}
-use Rattle.std.specs.Prelude.{Option, codes, bytes_eq}
+use Rattle.std.proofs.Common.{◌≡◌, ℕ, List, [], ◌∷◌, Bool, true, false, ap, sym, ◌∙◌, subst, get_or}
+use Rattle.std.proofs.lemmas.Fmt.{decimal_injective}
+use Rattle.std.specs.Prelude.{Option, codes, bytes_eq, ⊤}
+use Rattle.host_kit.specs.Trace.{events}
 use Rattle.tool_files.specs.Held.{Contents, Sets, WhereTold}
-use Rattle.tool_files.proofs.HeldLemmas.{where_told}
+use Rattle.lower_tool.specs.CommandVerdict.{IsFine}
+use Rattle.lower_tool.specs.Inputs.{ToldInputs, WhereInputs, front}
 use Rattle.lower_tool.specs.Lowering.{Lowers, default_captures}
-use Rattle.lower_tool.specs.Products.{IsFor, IfFile, IfPrinted, Makes}
+use Rattle.lower_tool.specs.Products.{IsFor, IfFile, IfPrinted, Makes, text_of}
+use Rattle.lower_tool.specs.Runs.{Runs, run_text}
 use Rattle.lower_tool.specs.Statuses.{Lowered, CutShort, LeavesFront, line}
 use Rattle.wasm_frame.specs.declared.sections.Version.{Version}
 use Rattle.wasm_frame.specs.declared.sections.Version.TheVariants.{One, Three}
-use Rattle.lower_tool.specs.Verdict.{IsValid}
-use Rattle.lower_tool.specs.Words.{Command, lower, check, words_of, input_of}
+use Rattle.lower_tool.specs.Words.{Command, lower, check, run, Say, IsPrinting}
 use Rattle.lower_tool.specs.declared.tool.product.Product.{Product}
-use Rattle.lower_tool.specs.declared.tool.product.Product.TheVariants.{File, Printed}
+use Rattle.lower_tool.specs.declared.tool.product.Product.TheVariants.{File, Fine, Run}
+use Rattle.lower_tool.proofs.Inputs.{makes_front, where_inputs, apart_inputs}
+use Rattle.lower_tool.proofs.Refusals.{runs_map}
+
+-- ---- words are one command at most
 
 -- whether the first word is `check1`
 abbrev is_check1 : List (List ℕ) → Bool
 is_check1 [] = false
 is_check1 (word ∷ rest) = bytes_eq word (codes "check1")
 
+both : {words a b : List (List ℕ)} → words ≡ a → words ≡ b → a ≡ b
+both h k = sym h ∙ k
+
 apart : true ≡ false → ⊥
 apart h = absurd cc
 
--- words are one command at most
-pub one_command : (c d : Command) → words_of c ≡ words_of d → c ≡ d
-one_command (lower input output) (lower other result) e = cc
-one_command (lower input output) (check v other) e = absurd cc
-one_command (check v input) (lower other result) e = absurd cc
-one_command (check One input) (check One other) e = cc
-one_command (check One input) (check Three other) e = absurd (apart (ap is_check1 e))
-one_command (check Three input) (check One other) e = absurd (apart (sym (ap is_check1 e)))
-one_command (check Three input) (check Three other) e = cc
+pub one_command : (words : List (List ℕ)) (c d : Command) → Say words c → Say words d → c ≡ d
+one_command words (lower input output) (lower other result) h k = let e = both h k in cc
+one_command words (lower input output) (check One other) h k = let e = both h k in absurd cc
+one_command words (lower input output) (check Three other) h k = let e = both h k in absurd cc
+one_command words (lower input output) (run One other script turns) h k = let e = both h k.1 in absurd cc
+one_command words (check One input) (lower other result) h k = let e = both h k in absurd cc
+one_command words (check Three input) (lower other result) h k = let e = both h k in absurd cc
+one_command words (check One input) (check One other) h k = let e = both h k in cc
+one_command words (check One input) (check Three other) h k = absurd (apart (ap is_check1 (both h k)))
+one_command words (check Three input) (check One other) h k = absurd (apart (sym (ap is_check1 (both h k))))
+one_command words (check Three input) (check Three other) h k = let e = both h k in cc
+one_command words (check One input) (run One other script turns) h k = let e = both h k.1 in absurd cc
+one_command words (check Three input) (run One other script turns) h k = let e = both h k.1 in absurd cc
+one_command words (run One input script turns) (lower other result) h k = let e = both h.1 k in absurd cc
+one_command words (run One input script turns) (check One other) h k = let e = both h.1 k in absurd cc
+one_command words (run One input script turns) (check Three other) h k = let e = both h.1 k in absurd cc
+one_command words (run One input script turns) (run One other second number) h k =
+    let e = both h.1 k.1 in
+    let same : turns ≡ number = decimal_injective turns number h.0 k.0 (ap (λ (w : List (List ℕ)). get_or w 3 []) e) in
+    cc
+one_command words c (run Three other script turns) h k = absurd k
+one_command words (run Three input script turns) d h k = absurd h
 
--- what is known of what was made, and of the file that was read
+-- the same of words that are the same
+pub same_command : (slice words : List (List ℕ)) (c d : Command) → slice ≡ words → Say slice c → Say words d → c ≡ d
+same_command slice words c d e h k = one_command words c d (subst (λ (w : List (List ℕ)). Say w c) e h) k
+
+-- ---- what was made
+
+-- what is known of what was made, and of the files that were read
 pub record Made (command : Command) (known : Option Contents) (product : Product) : Type 0 where
   pub is_for : IsFor command product
-  pub makes : WhereTold known (input_of command) (λ bytes. Makes command bytes product)
+  pub makes : WhereInputs known command (λ b t. Makes command b t product)
 
--- what was made of bytes was made of the file that holds them
-pub made_of_file : (known : Option Contents) (name input bytes slice : List ℕ) (command : Command) (product : Product) → name ≡ input → slice ≡ bytes → WhereTold known name (λ held. bytes ≡ held) → Makes command slice product → WhereTold known input (λ held. Makes command held product)
-made_of_file known name input bytes slice command product named same held makes =
-    subst (λ (n : List ℕ). WhereTold known n (λ b. Makes command b product)) named
-    (where_told known name (λ b. bytes ≡ b) (λ b. Makes command b product) (λ b e. subst (λ (x : List ℕ). Makes command x product) (same ∙ e) makes) held)
+-- what was made of what was read was made of the files
+pub made_of_inputs : (known : Option Contents) (command : Command) (bytes text : List ℕ) (product : Product) → WhereInputs known command (λ b t. (bytes ≡ front b) × (text ≡ front t)) → Makes command bytes text product → WhereInputs known command (λ b t. Makes command b t product)
+made_of_inputs known command bytes text product whole makes =
+    where_inputs known command (λ b t. (bytes ≡ front b) × (text ≡ front t)) (λ b t. Makes command b t product)
+    (λ b t same. makes_front command b t product (rw (same.0, same.1) at makes)) whole
+
+fine_of : (command : Command) (product : Product) (b t : List ℕ) → IsFor command product → Makes command b t product → IsFine command b t
+fine_of (lower input output) product b t is makes = makes.0
+fine_of (check v input) product b t is makes = makes
+fine_of (run v input script turns) (Run shown) b t is makes = runs_map v b t (λ marks. text_of shown ≡ run_text (events (marks turns))) (λ marks. ⊤) (λ marks h. tt) makes
+fine_of (run v input script turns) Fine b t is makes = absurd is
+fine_of (run v input script turns) (File name written) b t is makes = absurd is
+
+-- it is made of inputs that are fine
+pub made_fine : (command : Command) (known : Option Contents) (product : Product) → Made command known product → ToldInputs known command (λ b t. ¬ IsFine command b t) → ⊥
+made_fine command known product made told =
+    apart_inputs known command (λ b t. Makes command b t product) (λ b t. ¬ IsFine command b t) (λ b t makes none. none (fine_of command product b t made.is_for makes)) made.makes told
 
 -- ---- of `lower`
 
 pub lowers : (known now : Option Contents) (input output : List ℕ) (product : Product) → Made (lower input output) known product → IfFile product (Sets known now) → Lowered known now (Lowers default_captures) input output
 lowers known now input output (File name written) made sets =
     record { lowered = written; lowers = made.makes; sets = subst (λ (n : List ℕ). Sets known now n written) made.is_for sets }
-lowers known now input output (Printed text) made sets = absurd made.is_for
+lowers known now input output Fine made sets = absurd made.is_for
+lowers known now input output (Run shown) made sets = absurd made.is_for
 
 pub cuts : (known now : Option Contents) (input output : List ℕ) (product : Product) → Made (lower input output) known product → IfFile product (LeavesFront known now) → CutShort known now input output
 cuts known now input output (File name written) made leaves =
     record { lowered = written; lowers = made.makes; leaves = subst (λ (n : List ℕ). LeavesFront known now n written) made.is_for leaves }
-cuts known now input output (Printed text) made leaves = absurd made.is_for
+cuts known now input output Fine made leaves = absurd made.is_for
+cuts known now input output (Run shown) made leaves = absurd made.is_for
 
 -- a fact on the file that was made
 pub of_file : (known : Option Contents) (input output : List ℕ) (product : Product) (P : Type 0) → Made (lower input output) known product → IfFile product (λ name written. P) → P
 of_file known input output (File name written) P made h = h
-of_file known input output (Printed text) P made h = absurd made.is_for
+of_file known input output Fine P made h = absurd made.is_for
+of_file known input output (Run shown) P made h = absurd made.is_for
 
--- ---- of `check1` and `check3`
+-- ---- of commands that print
 
-pub finds_fine : (known : Option Contents) (version : Version) (input : List ℕ) (product : Product) → Made (check version input) known product → WhereTold known input (IsValid version)
-finds_fine known version input product made = where_told known input (λ bytes. Makes (check version input) bytes product) (IsValid version) (λ bytes made. made.0) made.makes
+-- a fact that does not depend on the text
+pub of_printing : (command : Command) (known : Option Contents) (product : Product) (P : Type 0) → IsPrinting command → Made command known product → IfPrinted product (λ text. P) → P
+of_printing (lower input output) known product P prints made h = absurd prints
+of_printing (check v input) known Fine P prints made h = h
+of_printing (check v input) known (File name written) P prints made h = absurd made.is_for
+of_printing (check v input) known (Run shown) P prints made h = absurd made.is_for
+of_printing (run v input script turns) known (Run shown) P prints made h = h
+of_printing (run v input script turns) known Fine P prints made h = absurd made.is_for
+of_printing (run v input script turns) known (File name written) P prints made h = absurd made.is_for
 
 pub of_text : (known : Option Contents) (version : Version) (input : List ℕ) (product : Product) (P : List ℕ → Type 0) → Made (check version input) known product → IfPrinted product P → P (line (codes "ok"))
+of_text known version input Fine P made h = h
 of_text known version input (File name written) P made h = absurd made.is_for
-of_text known version input (Printed text) P made h = subst P made.is_for h
+of_text known version input (Run shown) P made h = absurd made.is_for
+
+pub of_run : (known : Option Contents) (version : Version) (input script : List ℕ) (turns : ℕ) (product : Product) (P : List ℕ → Type 0) → Made (run version input script turns) known product → IfPrinted product P → WhereTold known input (λ b. WhereTold known script (λ t. Runs version b t (λ marks. P (run_text (events (marks turns))))))
+of_run known version input script turns (Run shown) P made h =
+    where_inputs known (run version input script turns) (λ b t. Makes (run version input script turns) b t (Run shown)) (λ b t. Runs version b t (λ marks. P (run_text (events (marks turns)))))
+    (λ b t makes. runs_map version b t (λ marks. text_of shown ≡ run_text (events (marks turns))) (λ marks. P (run_text (events (marks turns)))) (λ marks is. subst P is h) makes) made.makes
+of_run known version input script turns Fine P made h = absurd made.is_for
+of_run known version input script turns (File name written) P made h = absurd made.is_for

@@ -8,7 +8,7 @@ use Rattle.lower_tool.specs.Verdict.{ReadsWhere, RefusedBy}
 use Rattle.lower_tool.specs.declared.verdict.NotFine.{NotFine}
 use Rattle.lower_tool.specs.declared.verdict.NotFine.TheVariants as verdict
 use Rattle.lower_tool.specs.declared.verdict.Refusal.{Refusal}
-use Rattle.lower_tool.specs.declared.verdict.Refusal.TheVariants.{TooLarge, Unreadable, Floats, Outside, NotBuiltCore, Part, Body}
+use Rattle.lower_tool.specs.declared.verdict.Refusal.TheVariants.{TooLarge, Unreadable, Floats, Outside, NotBuiltCore, Part, Body, Script, DoesNotFit}
 
 -- ---- a module: a first step, and then what an answer that is told of it gives
 
@@ -44,6 +44,8 @@ module _ {M : Type 0} (Read : List ℕ → Result M ReadFault → Type 0) (one :
   found NotBuiltCore b within h = (Ok h.1.0, h.1.1, h.1.2)
   found (Part section place) b within h = (Ok h.1.0, h.1.1, h.1.2)
   found (Body place) b within h = (Ok h.1.0, h.1.1, h.1.2)
+  found (Script f) b within h = (Ok h.1.0, h.1.1, h.1.2)
+  found DoesNotFit b within h = (Ok h.1.0, h.1.1, h.1.2)
 
   large : (r : Refusal) (b : List ℕ) → file_limit < length b → RefusedBy Read Refuses r b → r ≡ TooLarge
   large TooLarge b big h = refl
@@ -53,6 +55,8 @@ module _ {M : Type 0} (Read : List ℕ → Result M ReadFault → Type 0) (one :
   large NotBuiltCore b big h = absurd (omega (arith, big, h.0))
   large (Part section place) b big h = absurd (omega (arith, big, h.0))
   large (Body place) b big h = absurd (omega (arith, big, h.0))
+  large (Script f) b big h = absurd (omega (arith, big, h.0))
+  large DoesNotFit b big h = absurd (omega (arith, big, h.0))
 
   same_by : ((r s : Refusal) (m : M) → Refuses r m → Refuses s m → r ≡ s) → (r s : Refusal) (answer : Result M ReadFault) → By r answer → By s answer → r ≡ s
   same_by single r s (Err f) h k = h ∙ sym k
@@ -83,6 +87,8 @@ module _ {M : Type 0} (Read : List ℕ → Result M ReadFault → Type 0) (one :
   of_module large unread b m (verdict.Refused NotBuiltCore) within reads h = (within, (m, reads, h))
   of_module large unread b m (verdict.Refused (Part section place)) within reads h = (within, (m, reads, h))
   of_module large unread b m (verdict.Refused (Body place)) within reads h = (within, (m, reads, h))
+  of_module large unread b m (verdict.Refused (Script f)) within reads h = (within, (m, reads, h))
+  of_module large unread b m (verdict.Refused DoesNotFit) within reads h = (within, (m, reads, h))
   of_module large unread b m (verdict.Memory e) within reads h = tt
 
   pub refused_of_module : ((m : M) → Refuses TooLarge m → ⊥) → ((f : ReadFault) (m : M) → Refuses (Unreadable f) m → ⊥) → {X : Type 0} (b : List ℕ) (m : M) (r : Result X NotFine) → length b ≤ file_limit → Read b (Ok m) → IfErr r (λ e. IfNotFine e (λ r. Refuses r m)) → IfErr r (λ e. IfNotFine e (λ r. RefusedBy Read Refuses r b))
@@ -92,3 +98,25 @@ module _ {M : Type 0} (Read : List ℕ → Result M ReadFault → Type 0) (one :
 pub fine_of_module : {M X : Type 0} (Read : List ℕ → Result M ReadFault → Type 0) (Is : M → Type 0) (b : List ℕ) (m : M) (r : Result X NotFine) → length b ≤ file_limit → Read b (Ok m) → OnOk r (Is m) → OnOk r (ReadsWhere Read Is b)
 fine_of_module Read Is b m (Ok done) within reads h = (within, (m, reads, h))
 fine_of_module Read Is b m (Err e) within reads h = tt
+
+-- what refuses a module in one way does so in another
+pub refused_map : {M : Type 0} (Read : List ℕ → Result M ReadFault → Type 0) (A B : Refusal → M → Type 0) → ((r : Refusal) (m : M) → A r m → B r m) → (r : Refusal) (b : List ℕ) → RefusedBy Read A r b → RefusedBy Read B r b
+refused_map Read A B f TooLarge b h = h
+refused_map Read A B f (Unreadable fault) b h = h
+refused_map Read A B f Floats b h = (h.0, (h.1.0, h.1.1, f Floats h.1.0 h.1.2))
+refused_map Read A B f (Outside e) b h = (h.0, (h.1.0, h.1.1, f (Outside e) h.1.0 h.1.2))
+refused_map Read A B f NotBuiltCore b h = (h.0, (h.1.0, h.1.1, f NotBuiltCore h.1.0 h.1.2))
+refused_map Read A B f (Part section place) b h = (h.0, (h.1.0, h.1.1, f (Part section place) h.1.0 h.1.2))
+refused_map Read A B f (Body place) b h = (h.0, (h.1.0, h.1.1, f (Body place) h.1.0 h.1.2))
+refused_map Read A B f (Script fault) b h = (h.0, (h.1.0, h.1.1, f (Script fault) h.1.0 h.1.2))
+refused_map Read A B f DoesNotFit b h = (h.0, (h.1.0, h.1.1, f DoesNotFit h.1.0 h.1.2))
+
+-- what holds of the module that bytes spell; and what holds together
+pub reads_map : {M : Type 0} (Read : List ℕ → Result M ReadFault → Type 0) (P Q : M → Type 0) → ((m : M) → P m → Q m) → (b : List ℕ) → ReadsWhere Read P b → ReadsWhere Read Q b
+reads_map Read P Q f b h = (h.0, (h.1.0, h.1.1, f h.1.0 h.1.2))
+
+pub reads_both : {M : Type 0} (Read : List ℕ → Result M ReadFault → Type 0) → ((b : List ℕ) (r s : Result M ReadFault) → Read b r → Read b s → r ≡ s) → (P Q R : M → Type 0) → ((m : M) → P m → Q m → R m) → (b : List ℕ) → ReadsWhere Read P b → ReadsWhere Read Q b → ReadsWhere Read R b
+reads_both {M} Read one P Q R f b h k =
+    let same : ◌≡◌ {A = Result M ReadFault} (Ok k.1.0) (Ok h.1.0) = one b (Ok k.1.0) (Ok h.1.0) k.1.1 h.1.1 in
+    let module_same : k.1.0 ≡ h.1.0 = cc same in
+    (h.0, (h.1.0, h.1.1, f h.1.0 h.1.2 (subst Q module_same k.1.2)))

@@ -3,13 +3,16 @@ pub mod CoreCode
 pub mod CoreFiles
 pub mod CoreItems
 pub mod Delivering
+pub mod Inputs
 pub mod Judging
 pub mod KnownLemmas
 pub mod Linked
 pub mod Refusals
 pub mod SameEvents
+pub mod ScriptVerdicts
 pub mod Shown
 pub mod Stopping
 pub mod ToldApart
+pub mod Turns
 pub mod TypedLowered
 pub mod WordLemmas

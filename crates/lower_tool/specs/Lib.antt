@@ -1,4 +1,5 @@
 pub mod Bare
+pub mod CommandVerdict
 pub mod Commands
 pub mod Constants
 pub mod Core
@@ -7,6 +8,7 @@ pub mod CoreTyping
 pub mod Distinct
 pub mod Flattening
 pub mod Headline
+pub mod Inputs
 pub mod Lowered
 pub mod Lowering
 pub mod MappedEvents
@@ -15,6 +17,7 @@ pub mod Mapping
 pub mod Marks
 pub mod Products
 pub mod Room
+pub mod Runs
 pub mod Statuses
 pub mod Stops
 pub mod Unmapping

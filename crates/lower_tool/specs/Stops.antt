@@ -6,10 +6,12 @@ use Rattle.valid_core1.specs.declared.invalid.Invalid.{Invalid as OldInvalid}
 use Rattle.valid_core1.specs.declared.invalid.Invalid.TheVariants as old_invalid
 use Rattle.valid_mod.specs.declared.invalid.Invalid.{Invalid}
 use Rattle.valid_mod.specs.declared.invalid.Invalid.TheVariants as invalid
+use Rattle.host_kit.specs.declared.script_text.TextFault.{TextFault}
+use Rattle.host_kit.specs.declared.script_text.TextFault.TheVariants as faults
 use Rattle.lower_tool.specs.declared.verdict.NotFine.{NotFine}
 use Rattle.lower_tool.specs.declared.verdict.NotFine.TheVariants as verdict
 use Rattle.lower_tool.specs.declared.verdict.Refusal.{Refusal}
-use Rattle.lower_tool.specs.declared.verdict.Refusal.TheVariants.{Unreadable, Part, Body}
+use Rattle.lower_tool.specs.declared.verdict.Refusal.TheVariants.{Unreadable, Part, Body, Script}
 use Rattle.lower_tool.specs.declared.tool.stop.Stop.{Stop}
 use Rattle.lower_tool.specs.declared.tool.stop.Stop.TheVariants.{Refused, CannotRead, OutOfMemory}
 use Rattle.lower_tool.specs.Statuses.{line}
@@ -41,6 +43,11 @@ abbrev pub of_typing : Invalid → NotFine
 of_typing (invalid.Part section index) = verdict.Refused (Part section index)
 of_typing (invalid.Body place) = verdict.Refused (Body place)
 of_typing (invalid.Memory error) = verdict.Memory error
+
+-- why a text that is no script is not fine
+abbrev pub of_script : TextFault → NotFine
+of_script (faults.Memory error) = verdict.Memory error
+of_script other = verdict.Refused (Script other)
 
 -- what a command stops for where bytes are not fine
 abbrev pub stop_of : NotFine → Stop

@@ -15,6 +15,7 @@ use Rattle.module_reading.specs.Limits.{file_limit}
 use Rattle.module_reading.specs.Reads.{Reads}
 use Rattle.read_new.specs.Spells.{three}
 use Rattle.core1_bytes.specs.Spells.{one}
+use Rattle.host_kit.specs.ScriptTexts.{text_fault}
 use Rattle.pass_stack.specs.Profile.{outside_profile}
 use Rattle.pass_stack.specs.Texts as outside
 use Rattle.valid_core1.specs.Verdict as old
@@ -22,9 +23,8 @@ use Rattle.valid_core1.specs.declared.invalid.Invalid.TheVariants as old_invalid
 use Rattle.valid_mod.specs.Verdict as new
 use Rattle.valid_mod.specs.declared.invalid.Invalid.TheVariants as new_invalid
 use Rattle.lower_tool.specs.declared.verdict.Refusal.{Refusal}
-use Rattle.lower_tool.specs.declared.verdict.Refusal.TheVariants.{TooLarge, Unreadable, Floats, Outside, NotBuiltCore, Part, Body}
+use Rattle.lower_tool.specs.declared.verdict.Refusal.TheVariants.{TooLarge, Unreadable, Floats, Outside, NotBuiltCore, Part, Body, Script, DoesNotFit}
 use Rattle.lower_tool.specs.CoreFiles.{SpellsCore}
-use Rattle.lower_tool.specs.Words.{Command, lower, check}
 
 -- ---- what every command asks of a file, where Read says how files of its version are read
 
@@ -87,10 +87,6 @@ abbrev pub IsValid : Version → List ℕ → Type 0
 IsValid versions.One bytes = ReadsWhere (Reads one) IsValid1 bytes
 IsValid versions.Three bytes = ReadsWhere (Reads three) IsValid3 bytes
 
-abbrev pub IsFine : Command → List ℕ → Type 0
-IsFine (lower input output) bytes = IsFineToLower bytes
-IsFine (check version input) bytes = IsValid version bytes
-
 -- this is the step that refuses the file
 abbrev pub RefusesToLower : Refusal → List ℕ → Type 0
 RefusesToLower refusal bytes = RefusedBy (Reads three) (RefusesLowering bytes) refusal bytes
@@ -98,10 +94,6 @@ RefusesToLower refusal bytes = RefusedBy (Reads three) (RefusesLowering bytes) r
 abbrev pub RefusesAsInvalid : Version → Refusal → List ℕ → Type 0
 RefusesAsInvalid versions.One refusal bytes = RefusedBy (Reads one) RefusesModule1 refusal bytes
 RefusesAsInvalid versions.Three refusal bytes = RefusedBy (Reads three) RefusesModule3 refusal bytes
-
-abbrev pub Refuses : Command → Refusal → List ℕ → Type 0
-Refuses (lower input output) refusal bytes = RefusesToLower refusal bytes
-Refuses (check version input) refusal bytes = RefusesAsInvalid version refusal bytes
 
 -- the text of a refusal; places and ids are decimal numbers, the highest digit first
 abbrev pub text_of : Refusal → List ℕ
@@ -112,7 +104,5 @@ text_of (Outside entry) = codes "outside: " ++ outside.text_of entry
 text_of NotBuiltCore = codes "outside: not built core"
 text_of (Part section index) = codes "invalid: part " ++ decimal section ++ codes " " ++ decimal index
 text_of (Body place) = codes "invalid: body " ++ decimal place
-
--- the text of the step that refuses the file
-abbrev pub IsRefusal : Command → List ℕ → List ℕ → Type 0
-IsRefusal command bytes text = (refusal : Refusal) × Refuses command refusal bytes × (text ≡ text_of refusal)
+text_of (Script fault) = text_fault fault
+text_of DoesNotFit = codes "script: does not fit"

@@ -1,42 +1,68 @@
 -- The commands, by their words.
-use Rattle.std.specs.Prelude.{◌≡◌, ℕ, List, [], ◌∷◌, codes}
+use Rattle.std.specs.Prelude.{◌≡◌, ℕ, ◌<◌, ◌^◌, List, [], ◌∷◌, codes, Option, None, Some, ⊤}
+use Rattle.std.specs.Fmt.{decimal}
 use Rattle.wasm_frame.specs.declared.sections.Version.{Version}
 use Rattle.wasm_frame.specs.declared.sections.Version.TheVariants.{One, Three}
 
--- a command with the names that its words give: `lower IN OUT`; `check1 IN` or `check3 IN`, by the version of the format
+-- a command with what its words give: `lower IN OUT`; `check1 IN` or `check3 IN`, by the version of the format; and
+-- `run1 IN SCRIPT TURNS`, by the version too
 pub data Command : Type 0 where
   lower : List ℕ → List ℕ → Command
   check : Version → List ℕ → Command
+  run : Version → List ℕ → List ℕ → ℕ → Command
 
 abbrev pub check_word : Version → List ℕ
 check_word One = codes "check1"
 check_word Three = codes "check3"
 
-abbrev pub words_of : Command → List (List ℕ)
-words_of (lower input output) = codes "lower" ∷ input ∷ output ∷ []
-words_of (check version input) = check_word version ∷ input ∷ []
+-- The words are those of the command. A number of turns is below 2 ^ 64, and is written in decimal without a zero in front.
+-- Modules of 3.0 are not run yet
+abbrev pub Say : List (List ℕ) → Command → Type 0
+Say words (lower input output) = words ≡ codes "lower" ∷ input ∷ output ∷ []
+Say words (check version input) = words ≡ check_word version ∷ input ∷ []
+Say words (run One input script turns) = (turns < 2 ^ 64) × (words ≡ codes "run1" ∷ input ∷ script ∷ decimal turns ∷ [])
+Say words (run Three input script turns) = ⊥
 
--- the name of the file that it reads
+-- the name of the file of its module, and that of its script, if it has one
 abbrev pub input_of : Command → List ℕ
 input_of (lower input output) = input
 input_of (check version input) = input
+input_of (run version input script turns) = input
+
+abbrev pub script_of : Command → Option (List ℕ)
+script_of (lower input output) = None
+script_of (check version input) = None
+script_of (run version input script turns) = Some script
 
 -- the words are a command
 abbrev pub IsCommand : List (List ℕ) → Type 0
-IsCommand words = (command : Command) × (words ≡ words_of command)
+IsCommand words = (command : Command) × Say words command
 
 -- the words are a command, of which P holds
 abbrev pub ByWords : List (List ℕ) → (Command → Type 0) → Type 0
-ByWords words P = (command : Command) × (words ≡ words_of command) × P command
+ByWords words P = (command : Command) × Say words command × P command
 
 -- P holds of the command, where the words are one
 abbrev pub IfWords : List (List ℕ) → (Command → Type 0) → Type 0
-IfWords words P = (command : Command) → words ≡ words_of command → P command
+IfWords words P = (command : Command) → Say words command → P command
 
 -- P holds of the names, where the words are this command
 abbrev pub IfLower : List (List ℕ) → (List ℕ → List ℕ → Type 0) → Type 0
-IfLower words P = (input output : List ℕ) → words ≡ words_of (lower input output) → P input output
+IfLower words P = (input output : List ℕ) → Say words (lower input output) → P input output
 
 -- P holds of the version and the name, where the words are `check1 IN` or `check3 IN`
 abbrev pub IfCheck : List (List ℕ) → (Version → List ℕ → Type 0) → Type 0
-IfCheck words P = (version : Version) (input : List ℕ) → words ≡ words_of (check version input) → P version input
+IfCheck words P = (version : Version) (input : List ℕ) → Say words (check version input) → P version input
+
+-- P holds of the version, the names and the number of turns, where the words are `run1 IN SCRIPT TURNS`
+abbrev pub IfRun : List (List ℕ) → (Version → List ℕ → List ℕ → ℕ → Type 0) → Type 0
+IfRun words P = (version : Version) (input script : List ℕ) (turns : ℕ) → Say words (run version input script turns) → P version input script turns
+
+-- it prints, and writes no file
+abbrev pub IsPrinting : Command → Type 0
+IsPrinting (lower input output) = ⊥
+IsPrinting _ = ⊤
+
+-- P holds of the command, where the words are one that prints
+abbrev pub IfPrinting : List (List ℕ) → (Command → Type 0) → Type 0
+IfPrinting words P = (command : Command) → IsPrinting command → Say words command → P command

@@ -1,6 +1,6 @@
 // The verdict on a file that is checked, in either version.
 
-ghost use Rattle.std.specs.Prelude.{◌≡◌, ◌≤◌, length, IfErr, OnOk};
+ghost use Rattle.std.specs.Prelude.{◌≡◌, ◌≤◌, length, IfErr, IfOk, OnOk};
 ghost use Rattle.wasm_ast.specs.Counts.{Agrees};
 ghost use Rattle.wasm_frame.specs.declared.sections.Version.TheVariants as versions;
 ghost use Rattle.lower_tool.specs.Stops.{IfNotFine};
@@ -14,7 +14,7 @@ use core1_bytes::read1;
 use pass_stack::outside_profile;
 use read_new::read;
 use std::alloc::Global;
-use valid_core1::validate1;
+use valid_core1::{Typed1, validate1};
 use wasm_ast::module::Module;
 use wasm_frame::sections::Version;
 
@@ -46,11 +46,22 @@ fn check1_module(alloc: Global, source: &Module1) -> Result<(), NotFine>
     ensures fine { OnOk result (IsValid1 source.now) }
     ensures refused { IfErr result (λ fault. IfNotFine fault (λ refusal. RefusesModule1 refusal source.now)) }
 {
+    type1(alloc, source)?;
+    Ok(())
+}
+
+/// A module of 1.0 that was read, as one that is typed. One with floats, or that is not typed, is refused.
+pub fn type1(alloc: Global, source: &Module1) -> Result<Typed1<'_>, NotFine>
+    requires { length source.now.funcs ≡ length source.now.codes }
+    ensures same { IfOk result (λ typed. typed ≡ source.now) }
+    ensures fine { OnOk result (IsValid1 source.now) }
+    ensures refused { IfErr result (λ fault. IfNotFine fault (λ refusal. RefusesModule1 refusal source.now)) }
+{
     if has_floats(source) {
         return Err(NotFine::Refused(Refusal::Floats));
     }
     match validate1(alloc, source) {
-        Ok(_) => Ok(()),
+        Ok(typed) => Ok(typed),
         Err(invalid) => Err(NotFine::from(invalid)),
     }
 }

@@ -7,8 +7,12 @@ ghost use Rattle.meaning_new.specs.Runs.{trace};
 ghost use Rattle.lower_tool.specs.Distinct.{extending, returning, shifting, behind_an_import, one_call, returned, unanswered};
 ghost use Rattle.lower_tool.specs.MappedInterface.{SameInterface};
 ghost use Rattle.lower_tool.specs.Mapping.{map_script};
-ghost use Rattle.lower_tool.specs.Verdict.{IsFine, IsRefusal};
+ghost use Rattle.lower_tool.specs.CommandVerdict.{IsFine, IsRefusal};
+ghost use Rattle.lower_tool.specs.Runs.{Runs};
 ghost use Rattle.lower_tool.specs.Words.{Command};
+ghost use Rattle.host_kit.specs.Trace.{events};
+ghost use Rattle.host_kit.specs.declared.event.Event.{Event};
+ghost use Rattle.wasm_frame.specs.declared.sections.Version.{Version};
 
 /// What a host sees of small modules within one turn: the sign of 128 is extended, here and in 1.0, and an import in front of
 /// the function is what the export names.
@@ -32,8 +36,13 @@ pub fn imports_are_told_apart()
     ensures called { Same 4 16 extending behind_an_import 4096 → ⊥ }
 {}
 
-/// A file has one verdict for each command: it is refused with one text at most, and with none where it is fine.
+/// What a command reads has one verdict: it is refused with one text at most, and with none where it is fine.
 pub fn one_verdict()
-    ensures one_text { (command : Command) (bytes text other : List ℕ) → IsRefusal command bytes text → IsRefusal command bytes other → text ≡ other }
-    ensures not_fine { (command : Command) (bytes text : List ℕ) → IsRefusal command bytes text → ¬ (IsFine command bytes) }
+    ensures one_text { (command : Command) (bytes script text other : List ℕ) → IsRefusal command bytes script text → IsRefusal command bytes script other → text ≡ other }
+    ensures not_fine { (command : Command) (bytes script text : List ℕ) → IsRefusal command bytes script text → ¬ (IsFine command bytes script) }
+{}
+
+/// A module runs in one way under a script: within a number of turns it shows one list of events.
+pub fn one_run()
+    ensures { (version : Version) (bytes text : List ℕ) (turns : ℕ) (shown other : List Event) → Runs version bytes text (λ marks. shown ≡ events (marks turns)) → Runs version bytes text (λ marks. other ≡ events (marks turns)) → shown ≡ other }
 {}

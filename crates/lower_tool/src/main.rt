@@ -6,6 +6,7 @@ mod core_file;
 pub mod files;
 pub mod laws;
 pub mod lowering;
+mod running;
 pub mod sink;
 #[cfg(test)]
 mod tests;

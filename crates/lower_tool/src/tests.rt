@@ -2,7 +2,7 @@
 
 ghost use Rattle.std.specs.Prelude.{◌≡◌, ◌≢◌, ◌<◌, [], ◌∷◌, IfOk, codes};
 ghost use Rattle.tool_files.specs.Safe.{IsHeld};
-ghost use Rattle.lower_tool.specs.Words.{words_of, lower};
+ghost use Rattle.lower_tool.specs.Words.{Say, lower};
 
 use crate::files::{FailAt, MemFiles, SafeFiles};
 use crate::sink::{MemSink, SafeSink};
@@ -25,12 +25,30 @@ const LOWERED: [u8; 41] = [
     0x20, 0x00, 0x41, 0x18, 0x74, 0x41, 0x18, 0x75, 0x0B,
 ];
 
-/// One file, `a`.
-fn one_file(alloc: Global, bytes: Vec<u8>) -> Result<Vec<(Text, Bytes)>, AllocError>
-    ensures { IfOk result (λ files. files.items ≡ (codes "a", bytes.items) ∷ []) }
+/// A module of 1.0: an exported mutable global `g` that is 5, `f`, which divides -2147483648 by -1, and `h`, which does
+/// nothing.
+const DIVIDE: [u8; 64] = [
+    0x00, 0x61, 0x73, 0x6D, 0x01, 0x00, 0x00, 0x00, 0x01, 0x08, 0x02, 0x60, 0x00, 0x01, 0x7F, 0x60,
+    0x00, 0x00, 0x03, 0x03, 0x02, 0x00, 0x01, 0x06, 0x06, 0x01, 0x7F, 0x01, 0x41, 0x05, 0x0B, 0x07,
+    0x0D, 0x03, 0x01, 0x66, 0x00, 0x00, 0x01, 0x68, 0x00, 0x01, 0x01, 0x67, 0x03, 0x00, 0x0A, 0x10,
+    0x02, 0x0B, 0x00, 0x41, 0x80, 0x80, 0x80, 0x80, 0x78, 0x41, 0x7F, 0x6D, 0x0B, 0x02, 0x00, 0x0B,
+];
+
+/// Four calls of `f`.
+const CALLS: &str =
+    r#"{"version":1,"globals":[],"replies":[],"grows":[],"items":[{"call":["f",[["i32",127]]]},{"call":["f",[["i32",128]]]},{"call":["f",[["i32",255]]]},{"call":["f",[["i32",4294967295]]]}]}"#;
+
+/// What they show of a module that extends a byte.
+const SHOWN: &str =
+    "started\nreturned 0 (i32 127) []\nreturned 1 (i32 4294967168) []\nreturned 2 (i32 4294967295) []\nreturned 3 (i32 4294967295) []\ndone\n";
+
+/// Two files, the module `a` and the script `s`.
+fn two_files(alloc: Global, a: Vec<u8>, s: Vec<u8>) -> Result<Vec<(Text, Bytes)>, AllocError>
+    ensures { IfOk result (λ files. files.items ≡ (codes "a", a.items) ∷ (codes "s", s.items) ∷ []) }
 {
     let mut files = Vec::new(alloc);
-    files.push((Text::new(alloc, "a")?, Bytes::from_vec(bytes)))?;
+    files.push((Text::new(alloc, "a")?, Bytes::from_vec(a)))?;
+    files.push((Text::new(alloc, "s")?, Bytes::from_vec(s)))?;
     Ok(files)
 }
 
@@ -91,8 +109,7 @@ fn bytes_of<'a>(files: &'a [(Text, Bytes)], name: &str) -> Option<&'a [u8]> {
     None
 }
 
-/// Whether the words come to this, over the file `a` and a sink that takes two bytes at once. It has no clause: the tests
-/// compare what ran.
+/// Whether the words come to this, over the file `a` and an empty script.
 fn comes_to(
     alloc: Global,
     words: &[&str],
@@ -102,8 +119,23 @@ fn comes_to(
 ) -> Result<bool, AllocError>
     requires { 0 < failing.most }
 {
+    runs_to(alloc, words, a, Vec::new(alloc), failing, outcome)
+}
+
+/// Whether the words come to this, over the files `a` and `s` and a sink that takes two bytes at once. It has no clause: the
+/// tests compare what ran.
+fn runs_to(
+    alloc: Global,
+    words: &[&str],
+    a: Vec<u8>,
+    s: Vec<u8>,
+    failing: Failing,
+    outcome: Outcome,
+) -> Result<bool, AllocError>
+    requires { 0 < failing.most }
+{
     let words = texts(alloc, words)?;
-    let held = one_file(alloc, a)?;
+    let held = two_files(alloc, a, s)?;
     let fails = failing.of_files(alloc)?;
     let prints = vec![in alloc; failing.print]?;
     let mut files = MemFiles::new(alloc, held, failing.most, fails);
@@ -459,7 +491,7 @@ fn one_fault_of_a_check(rt: HostRuntime) -> Result<(), Fail> {
 fn other_words_are_no_command(rt: HostRuntime) -> Result<(), Fail> {
     let alloc = rt.alloc();
     // The words, which call of print fails, the status, and what is printed.
-    let rows: [(&[&str], u64, u8, &str); 9] = [
+    let rows: [(&[&str], u64, u8, &str); 17] = [
         (&["lower", "absent", "b"], 0, 3, "cannot read\n"),
         (&["check1", "absent"], 0, 3, "cannot read\n"),
         (&["check1"], 0, 2, "usage\n"),
@@ -467,6 +499,14 @@ fn other_words_are_no_command(rt: HostRuntime) -> Result<(), Fail> {
         (&["check1", "a", "b"], 0, 2, "usage\n"),
         (&["lower", "a"], 0, 2, "usage\n"),
         (&["lower", "a", "b", "16"], 0, 2, "usage\n"),
+        (&["run1", "a", "s"], 0, 2, "usage\n"),
+        (&["run1", "a", "s", ""], 0, 2, "usage\n"),
+        (&["run1", "a", "s", "05"], 0, 2, "usage\n"),
+        (&["run1", "a", "s", "+5"], 0, 2, "usage\n"),
+        (&["run1", "a", "s", "18446744073709551616"], 0, 2, "usage\n"),
+        (&["run1", "absent", "s", "5"], 0, 3, "cannot read\n"),
+        (&["run1", "a", "absent", "5"], 0, 3, "cannot read\n"),
+        (&["run3", "a", "s", "5"], 0, 2, "usage\n"),
         (&["--help"], 1, 2, ""),
         (&[], 2, 2, "us"),
     ];
@@ -497,12 +537,125 @@ fn one_byte_past_the_limit(rt: HostRuntime) -> Result<(), Fail> {
         written: None,
     };
     assert!(rt; comes_to(alloc, &["lower", "a", "b"], large, failing, outcome)?);
+    let large = vec![in alloc; 0; 67_108_865]?;
+    let outcome = Outcome {
+        status: 1,
+        printed: "refused: script: too large\n",
+        written: None,
+    };
+    let words = ["run1", "a", "s", "5"];
+    assert!(rt;
+        runs_to(
+            alloc,
+            &words,
+            DIVIDE.to_vec(alloc)?,
+            large,
+            failing,
+            outcome
+        )?
+    );
+    Ok(())
+}
+
+/// A module, a script, how many turns there are, which call of print fails, the status, and what is printed.
+type RunRow<'a> = (&'a [u8], &'a str, &'a str, u64, u8, &'a str);
+
+#[test]
+fn runs_of_modules_of_1_0(rt: HostRuntime) -> Result<(), Fail> {
+    let alloc = rt.alloc();
+    let start: &[u8] =
+        b"\x00asm\x01\x00\x00\x00\x01\x04\x01\x60\x00\x00\x03\x02\x01\x00\x08\x01\x00\x0A\x04\x01\x02\x00\x0B";
+    let nothing = r#"{"version":1,"globals":[],"replies":[],"grows":[],"items":[]}"#;
+    let rows: [RunRow<'_>; 14] = [
+        (&LOWERED, CALLS, "1000000", 0, 0, SHOWN),
+        (&LOWERED, CALLS, "18446744073709551615", 0, 0, SHOWN),
+        // A trap, a global that is set, and then another call.
+        (
+            &DIVIDE,
+            r#"{"version":1,"globals":[],"replies":[],"grows":[],"items":[{"call":["f",[]]},{"set":["g",["i32",9]]},{"call":["h",[]]}]}"#,
+            "1000000",
+            0,
+            0,
+            "started\ntrapped 0 [i32 5]\nreturned 2 () [i32 9]\ndone\n",
+        ),
+        // Too few turns, for a start function too.
+        (
+            &LOWERED,
+            CALLS,
+            "1",
+            0,
+            0,
+            "started\nreturned 0 (i32 127) []\nrunning\n",
+        ),
+        (&LOWERED, CALLS, "0", 0, 0, "started\nrunning\n"),
+        (start, nothing, "0", 0, 0, "running\n"),
+        (start, nothing, "1", 0, 0, "started\ndone\n"),
+        // The sink fails in the first line, and in the last.
+        (&LOWERED, CALLS, "0", 4, 4, "starte"),
+        (&LOWERED, CALLS, "0", 5, 4, "started\n"),
+        // The module is looked at before the script, and the script before it is run.
+        (&EXTEND, "{", "5", 0, 1, "refused: body 0\n"),
+        (&LOWERED, "{", "5", 0, 1, "refused: script: not json\n"),
+        (
+            &DIVIDE,
+            r#"{"version":2,"globals":[],"replies":[],"grows":[],"items":[]}"#,
+            "5",
+            0,
+            1,
+            "refused: script: /version\n",
+        ),
+        (
+            &LOWERED,
+            r#"{"version":1,"globals":[],"replies":[],"grows":[],"items":[{"call":["absent",[]]}]}"#,
+            "5",
+            0,
+            1,
+            "refused: script: does not fit\n",
+        ),
+        (
+            &LOWERED,
+            r#"{"version":1,"globals":[],"replies":[],"grows":[],"items":[{"call":["f",[["i64",1]]]}]}"#,
+            "5",
+            0,
+            1,
+            "refused: script: does not fit\n",
+        ),
+    ];
+    for (module, script, turns, print, status, printed) in rows {
+        let outcome = Outcome {
+            status,
+            printed,
+            written: None,
+        };
+        let failing = Failing { print, ..CALM };
+        let s = script.as_bytes().to_vec(alloc)?;
+        let words = ["run1", "a", "s", turns];
+        assert!(rt; runs_to(alloc, &words, module.to_vec(alloc)?, s, failing, outcome)?);
+    }
+    Ok(())
+}
+
+#[test]
+fn what_was_lowered_runs(rt: HostRuntime) -> Result<(), Fail> {
+    let alloc = rt.alloc();
+    let held = two_files(
+        alloc,
+        EXTEND.to_vec(alloc)?,
+        CALLS.as_bytes().to_vec(alloc)?,
+    )?;
+    let mut files = MemFiles::new(alloc, held, 16, CALM.of_files(alloc)?);
+    let mut out = MemSink::new(alloc, 2, Vec::new(alloc));
+    let lower = texts(alloc, &["lower", "a", "b"])?;
+    let run = texts(alloc, &["run1", "b", "s", "1000000"])?;
+    assert_eq!(rt; tool(alloc, &lower, &mut files, &mut out), 0);
+    assert_eq!(rt; tool(alloc, &run, &mut files, &mut out), 0);
+    assert!(rt; out.written() == SHOWN.as_bytes());
     Ok(())
 }
 
 /// The words `lower a b`.
 fn lower_a_b(alloc: Global) -> Result<Texts, AllocError>
-    ensures { IfOk result (λ words. words ≡ words_of (lower (codes "a") (codes "b"))) }
+    ensures { IfOk result (λ words. Say words (lower (codes "a") (codes "b"))) }
 {
     let mut words = Texts::new(alloc);
     words.push(Text::new(alloc, "lower")?)?;
@@ -518,7 +671,7 @@ fn tool_without_faults(
     files: &mut SafeFiles,
     out: &mut SafeSink,
 ) -> u8
-    requires words { words.now ≡ words_of (lower (codes "a") (codes "b")) }
+    requires words { Say words.now (lower (codes "a") (codes "b")) }
     requires held { IsHeld files.old (codes "a") }
     ensures reads { result ≢ 3 }
     ensures writes { result ≢ 4 }
@@ -529,7 +682,7 @@ fn tool_without_faults(
 #[test]
 fn no_fault_without_faults(rt: HostRuntime) -> Result<(), Fail> {
     let alloc = rt.alloc();
-    let mut files = SafeFiles::new(one_file(alloc, EXTEND.to_vec(alloc)?)?);
+    let mut files = SafeFiles::new(two_files(alloc, EXTEND.to_vec(alloc)?, Vec::new(alloc))?);
     let words = lower_a_b(alloc)?;
     assert!(rt; tool_without_faults(alloc, &words, &mut files, &mut SafeSink::new()) == 0);
     Ok(())

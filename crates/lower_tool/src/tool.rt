@@ -7,14 +7,18 @@ ghost use Rattle.tool_files.specs.Held.{Told, WhereTold};
 ghost use Rattle.core1_ast.specs.Typing.{Typed1};
 ghost use Rattle.core1_ast.specs.declared.module.parts.Module1.{Module1};
 ghost use Rattle.core1_bytes.specs.Spells.{Spells1};
+ghost use Rattle.host_kit.specs.Trace.{events};
 ghost use Rattle.wasm_ast.specs.declared.module.parts.Module.{Module};
+ghost use Rattle.lower_tool.specs.CommandVerdict.{IsFine, IsRefusal};
 ghost use Rattle.lower_tool.specs.CoreFiles.{SpellsCore};
 ghost use Rattle.lower_tool.specs.Headline.{Same};
+ghost use Rattle.lower_tool.specs.Inputs.{CanBegin, ToldInputs, WhereInputs, TakesInput};
 ghost use Rattle.lower_tool.specs.MappedInterface.{SameInterface};
-ghost use Rattle.lower_tool.specs.Statuses.{Prints, AppendsFront, Lowered, CutShort, TakesWithinLimit, line};
+ghost use Rattle.lower_tool.specs.Runs.{Runs, run_text};
+ghost use Rattle.lower_tool.specs.Statuses.{Prints, AppendsFront, Lowered, CutShort, line};
 ghost use Rattle.lower_tool.specs.Stops.{line_of, status_of};
-ghost use Rattle.lower_tool.specs.Verdict.{IsFine, IsFineToLower, IsValid, IsRefusal};
-ghost use Rattle.lower_tool.specs.Words.{input_of, IsCommand, ByWords, IfWords, IfLower, IfCheck};
+ghost use Rattle.lower_tool.specs.Verdict.{IsFineToLower, IsValid};
+ghost use Rattle.lower_tool.specs.Words.{IsCommand, ByWords, IfWords, IfLower, IfCheck, IfRun, IfPrinting};
 
 mod command;
 mod input;
@@ -37,7 +41,7 @@ pub use stop::Stop;
 
 /// Runs the command that the words are, and gives its status.
 pub fn tool<F: Files, S: Sink>(alloc: Global, words: &Texts, files: &mut F, out: &mut S) -> u8
-    requires { IfWords words.now (λ command. F.can_begin files.old (input_of command)) }
+    requires { IfWords words.now (λ command. CanBegin (F.can_begin files.old) command) }
 
     ensures statuses { result ≤ 5 }
     ensures usage { (result ≡ 2) ↔ (¬ IsCommand words.now) }
@@ -48,20 +52,25 @@ pub fn tool<F: Files, S: Sink>(alloc: Global, words: &Texts, files: &mut F, out:
     ensures lowered { result ≡ 0 → IfLower words.now (Lowered (F.holds files.old) (F.holds files.new)
         (λ bytes written. (m : Module) × SpellsCore bytes m × ((m1 : Module1) × Spells1 written m1 × Typed1 m1 × SameInterface m m1 × Same 4 16 m m1 4096))) }
     ensures valid { result ≡ 0 → IfCheck words.now (λ version input. WhereTold (F.holds files.old) input (IsValid version)) }
-    ensures refused { result ≡ 1 → ByWords words.now (λ command. (text : List ℕ) × WhereTold (F.holds files.old) (input_of command) (λ bytes. IsRefusal command bytes text)
+    // The module is valid, the script fits it, and what is printed is the text of the events that the meaning gives.
+    ensures runs { result ≡ 0 → IfRun words.now (λ version input script turns. WhereTold (F.holds files.old) input (λ bytes. WhereTold (F.holds files.old) script (λ text.
+        Runs version bytes text (λ marks. Appends (S.written out.old) (S.written out.new) (run_text (events (marks turns))))))) }
+    ensures refused { result ≡ 1 → ByWords words.now (λ command. (text : List ℕ) × WhereInputs (F.holds files.old) command (λ bytes script. IsRefusal command bytes script text)
         × Prints (S.written out.old) (S.written out.new) (S.faults out.old) (S.faults out.new) (line (codes "refused: " ++ text))) }
-    ensures refuses { IfWords words.now (λ command. Told (F.holds files.old) (input_of command) (λ bytes. ¬ IsFine command bytes)
+    ensures refuses { IfWords words.now (λ command. ToldInputs (F.holds files.old) command (λ bytes script. ¬ IsFine command bytes script)
         → ¬ Rose (F.read_faults files.old) (F.read_faults files.new) → (result ≡ 1) ⊎ (result ≡ 5)) }
     ensures read { result ≡ 3 → Rose (F.read_faults files.old) (F.read_faults files.new) }
 
     ensures written { result ≡ 4 → IfLower words.now (λ input output. Rose (F.write_faults files.old) (F.write_faults files.new)) }
     ensures cut { result ≡ 4 → IfLower words.now (CutShort (F.holds files.old) (F.holds files.new)) }
-    ensures printed { result ≡ 4 → IfCheck words.now (λ version input. Rose (S.faults out.old) (S.faults out.new)) }
+    ensures printed { result ≡ 4 → IfPrinting words.now (λ command. Rose (S.faults out.old) (S.faults out.new)) }
     ensures cut_line { result ≡ 4 → IfCheck words.now (λ version input. AppendsFront (S.written out.old) (S.written out.new) (line (codes "ok"))) }
+    ensures cut_run { result ≡ 4 → IfRun words.now (λ version input script turns. WhereTold (F.holds files.old) input (λ bytes. WhereTold (F.holds files.old) script (λ text.
+        Runs version bytes text (λ marks. AppendsFront (S.written out.old) (S.written out.new) (run_text (events (marks turns))))))) }
 
     ensures complete { IfLower words.now (λ input output. Told (F.holds files.old) input IsFineToLower
         → ¬ Rose (F.read_faults files.old) (F.read_faults files.new) → ¬ Rose (F.write_faults files.old) (F.write_faults files.new) → (result ≡ 0) ⊎ (result ≡ 5)) }
-    ensures complete_check { IfCheck words.now (λ version input. Told (F.holds files.old) input (IsValid version)
+    ensures complete_printing { IfPrinting words.now (λ command. ToldInputs (F.holds files.old) command (IsFine command)
         → ¬ Rose (F.read_faults files.old) (F.read_faults files.new) → ¬ Rose (S.faults out.old) (S.faults out.new) → (result ≡ 0) ⊎ (result ≡ 5)) }
 
     ensures silent { (result ≡ 0) ⊎ (result ≡ 4) → IfLower words.now (λ input output. out.new ≡ out.old) }
@@ -74,10 +83,10 @@ pub fn tool<F: Files, S: Sink>(alloc: Global, words: &Texts, files: &mut F, out:
     ensures held { result ≢ 0 → result ≢ 4 → F.holds files.new ≡ F.holds files.old }
     ensures created { result ≢ 0 → result ≢ 4 → F.created files.new ≡ F.created files.old }
     ensures writes { result ≢ 0 → result ≢ 4 → F.write_faults files.new ≡ F.write_faults files.old }
-    ensures reads_only { IfCheck words.now (λ version input. (F.holds files.new ≡ F.holds files.old) × (F.created files.new ≡ F.created files.old)
+    ensures reads_only { IfPrinting words.now (λ command. (F.holds files.new ≡ F.holds files.old) × (F.created files.new ≡ F.created files.old)
         × (F.write_faults files.new ≡ F.write_faults files.old)) }
     ensures taken { result ≢ 0 → result ≢ 4 → IsTrue (F.is_reading files.new)
-        → IfWords words.now (λ command. IfSome (F.holds files.old) (λ held. TakesWithinLimit (held (input_of command)) (F.left files.new))) }
+        → IfWords words.now (λ command. IfSome (F.holds files.old) (λ held. TakesInput held command (F.left files.new))) }
 
     ensures reads_later { F.read_faults files.old ≤ F.read_faults files.new }
     ensures writes_later { F.write_faults files.old ≤ F.write_faults files.new }

@@ -2,9 +2,10 @@
 
 ghost use Rattle.std.specs.Prelude.{◌≡◌, Some};
 ghost use Rattle.lower_tool.specs.Verdict.{text_of};
-ghost use Rattle.lower_tool.specs.Stops.{of_reading, of_typing, of_typing1};
+ghost use Rattle.lower_tool.specs.Stops.{of_reading, of_script, of_typing, of_typing1};
 ghost use Rattle.lower_tool.specs.declared.verdict.NotFine.TheVariants.{Memory};
 
+use host_kit::TextFault;
 use module_reading::ReadFault;
 use pass_stack::Outside;
 use std::alloc::AllocError;
@@ -12,7 +13,7 @@ use std::fmt;
 use thiserror::Error;
 use valid_mod::Invalid;
 
-/// The first step of the verdict that refuses a file.
+/// The first step of the verdict that refuses a file, or a script.
 #[derive(Debug, Drop, Error)]
 pub enum Refusal {
     /// The file has more than 67,108,864 bytes.
@@ -29,6 +30,10 @@ pub enum Refusal {
     Part(u8, u32),
     /// All parts are typed, and the body at this place in the code section is the first that is not.
     Body(u32),
+    /// The module is fine, and the text of the script is none, for this fault. Want of memory is no such fault.
+    Script(TextFault),
+    /// The module is fine, and the script does not fit it.
+    DoesNotFit,
 }
 
 impl fmt::Display for Refusal {
@@ -43,6 +48,8 @@ impl fmt::Display for Refusal {
             Refusal::NotBuiltCore => write!(f, "outside: not built core"),
             Refusal::Part(section, index) => write!(f, "invalid: part {section} {index}"),
             Refusal::Body(place) => write!(f, "invalid: body {place}"),
+            Refusal::Script(fault) => write!(f, "{fault}"),
+            Refusal::DoesNotFit => write!(f, "script: does not fit"),
         }
     }
 }
@@ -99,6 +106,17 @@ impl From<Invalid> for NotFine {
             Invalid::Part { section, index } => NotFine::Refused(Refusal::Part(section, index)),
             Invalid::Body(place) => NotFine::Refused(Refusal::Body(place)),
             Invalid::Memory(error) => NotFine::Memory(error),
+        }
+    }
+}
+
+impl From<TextFault> for NotFine {
+    ghost from_gives = { λ error fault. fault ≡ of_script error };
+
+    fn from(error: TextFault) -> NotFine {
+        match error {
+            TextFault::Memory(error) => NotFine::Memory(error),
+            fault => NotFine::Refused(Refusal::Script(fault)),
         }
     }
 }

@@ -3,8 +3,9 @@ mod Closes
 mod Closing
 mod Entering
 mod Instructions
-pub mod Laws
 mod Moves
 mod Passing
 mod Spending
 mod Views
+pub mod Laws
+pub mod Stretching

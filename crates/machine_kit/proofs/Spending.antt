@@ -1,7 +1,8 @@
 -- A machine takes its turns one after another.
-use Rattle.std.proofs.Common.{◌≡◌, ℕ, suc, ◌+◌, ◌-◌, ◌<◌, ◌≤◌, max, false, List, [], ◌∷◌, take, drop, Option, Some, None, refl, sym, ap, subst, ◌∙◌, arith, add-zero}
+use Rattle.std.proofs.Common.{◌≡◌, ℕ, zero, suc, ◌+◌, ◌-◌, ◌<◌, ◌≤◌, max, false, List, [], ◌∷◌, take, drop, Option, Some, None, refl, sym, ap, subst, ◌∙◌, arith, add-zero}
 use Rattle.std.proofs.Math.Nat.{sub-zero}
 use Rattle.evaluation_kit.specs.declared.jump.Jump.{Jump}
+use Rattle.evaluation_kit.specs.declared.jump.Jump.TheVariants.{Branch}
 use Rattle.outcome_kit.specs.Outcome.{Done, Halt, after}
 use Rattle.outcome_kit.proofs.Outcomes.{after-zero, after-add}
 use Rattle.machine_kit.specs.declared.frame.Frame.{Frame}
@@ -14,8 +15,11 @@ use Rattle.machine_kit.specs.declared.turns.Outcome.TheVariants as outcomes
 use Rattle.machine_kit.specs.Acts.{Acts, zeros_of, ended_by}
 use Rattle.machine_kit.specs.Stacks.{Stack}
 use Rattle.machine_kit.specs.Pending.{open_calls}
-use Rattle.machine_kit.specs.Machines.{Place, opens, pending_at, conf_of, means, Reaches, moving}
-use Rattle.machine_kit.specs.Turning.{over, loop_code, passed_flow, passed_place, entered_place, Turned, Spent, Came}
+use Rattle.machine_kit.specs.Machines.{Place, opens, pending_at, conf_of, means, Reaches, moving, flow_after}
+use Rattle.machine_kit.specs.Stretches.{Stretch}
+use Rattle.machine_kit.specs.Closings.{shortened}
+use Rattle.machine_kit.specs.Turning.{over, loop_code, passed_flow, passed_place, entered_place, IsPass, Turned, Spent, Came}
+use Rattle.machine_kit.proofs.Closes.{loop_closes}
 use Rattle.machine_kit.proofs.Passing.{opens_body, passes_loop}
 
 module _ {I V S : Type 0} (acts : Acts I V S) where
@@ -82,6 +86,58 @@ module _ {I V S : Type 0} (acts : Acts I V S) where
           let left : n - used ≡ suc (n - (used + 1)) = omega arith in
           let q = t.goes p.0 (n - (used + 1)) in
           (q.0, p.1 ∙ ap (λ m. after used (means acts flow' b s' p.0 m)) left ∙ ap (after used) q.1 ∙ sym (after-add used 1 (means acts flow'' c s'' q.0 (n - (used + 1)))))
+
+  -- more of them
+  pub spent_on : (flow flow' flow'' : Flow I) (a b c : Place I V) (s s' s'' : S) (n used more : ℕ) → Spent acts flow a s n used flow' b s' → Spent acts flow' b s' (n - used) more flow'' c s'' → Spent acts flow a s n (used + more) flow'' c s''
+  spent_on flow flow' flow'' a b c s s' s'' n used more h t = record {
+    leaves = λ top.
+        let p = h.leaves top in
+        let q = t.leaves p.0 in
+        let left : n - used - more ≡ n - (used + more) = omega arith in
+        (q.0, p.1 ∙ ap (after used) (q.1 ∙ ap (λ m. after more (means acts flow'' c s'' q.0 m)) left) ∙ sym (after-add used more (means acts flow'' c s'' q.0 (n - (used + more)))));
+  }
+
+  -- the first of them
+  pub spent_first : (flow flow' flow'' : Flow I) (a b c : Place I V) (s s' s'' : S) (n more : ℕ) → 0 < n → Turned acts flow a s flow' b s' → Spent acts flow' b s' (n - 1) more flow'' c s'' → Spent acts flow a s n (more + 1) flow'' c s''
+  spent_first flow flow' flow'' a b c s s' s'' n more some t h =
+      let order : 1 + more ≡ more + 1 = omega arith in
+      subst (λ u. Spent acts flow a s n u flow'' c s'') order
+      (spent_on flow flow' flow'' a b c s s' s'' n 1 more (spent_more flow flow flow' a a b s s s' n 0 some (spent_nothing flow a s n) t) h)
+
+  -- and steps without a turn
+  pub spent_then : (flow flow' flow'' : Flow I) (a b c : Place I V) (s s' s'' : S) (n used : ℕ) → Spent acts flow a s n used flow' b s' → Reaches acts flow' b s' flow'' c s'' → Spent acts flow a s n used flow'' c s''
+  spent_then flow flow' flow'' a b c s s' s'' n used h r = record {
+    leaves = λ top. let p = h.leaves top in (p.0, p.1 ∙ ap (after used) (r p.0 (n - used)));
+  }
+
+  pub spent_none : (flow flow' : Flow I) (a b : Place I V) (s s' : S) (n : ℕ) → Reaches acts flow a s flow' b s' → Spent acts flow a s n 0 flow' b s'
+  spent_none flow flow' a b s s' n r = spent_then flow flow flow' a a b s s s' n 0 (spent_nothing flow a s n) r
+
+  -- a jump to the innermost loop, and its next pass
+  pass_at : (fs : List (Frame I)) (code : List I) (o l : Stack V) (s : S) (takes : ℕ) (next : List I) → IsPass takes next fs → Turned acts (flows.Close (Some (Branch 0))) (record { code = code; operands = o; locals = l; frames = fs }) s flows.Run (record { code = next; operands = shortened takes o; locals = l; frames = fs }) s
+  pass_at (frames.Loop p r k body rest ∷ fs) code o l s takes next h =
+      subst (λ t. Turned acts (flows.Close (Some (Branch 0))) (record { code = code; operands = o; locals = l; frames = frames.Loop p r k body rest ∷ fs }) s flows.Run (record { code = next; operands = shortened t o; locals = l; frames = frames.Loop p r k body rest ∷ fs }) s) h.0
+      (subst (λ x. Turned acts (flows.Close (Some (Branch 0))) (record { code = code; operands = o; locals = l; frames = frames.Loop p r k body rest ∷ fs }) s flows.Run (record { code = x; operands = shortened p o; locals = l; frames = frames.Loop p r k body rest ∷ fs }) s) h.1
+      (record {
+        goes = λ top n. (
+          top,
+          (loop_closes acts (record { code = code; operands = o; locals = l; frames = fs }) (Some (Branch 0)) p r k body rest s).same top (suc n)
+              ∙ passes_loop acts p r (take k o.aside) body.now rest.now code (opens acts fs (drop k o.aside) l.aside) (conf_of acts (shortened p o) l s top) n,
+        );
+      }))
+  pass_at _ code o l s takes next h = absurd h
+
+  -- plain instructions, and a jump to the innermost loop
+  pub passes : (a : Place I V) (b : Place I V) (s s' : S) (j : Option Jump) (o : Stack V) (takes : ℕ) (next : List I) → Stretch acts a s j b s' → j ≡ Some (Branch 0) → IsPass takes next b.frames → o ≡ shortened takes b.operands → Turned acts flows.Run a s flows.Run (record b { code = next; operands = o }) s'
+  passes a b s s' (Some (Branch zero)) o takes next h e is q =
+      subst (λ x. Turned acts flows.Run a s flows.Run (record b { code = next; operands = x }) s') (sym q)
+      (let t = pass_at b.frames b.code b.operands b.locals s' takes next is in record { goes = λ top n. ((t.goes top n).0, h.same top (suc n) ∙ (t.goes top n).1) })
+  passes a b s s' _ o takes next h e is q = let no : ⊥ = cc in absurd no
+
+  -- plain instructions, and then something else
+  pub ran_to : (a b : Place I V) (s s' : S) (j : Option Jump) → Stretch acts a s j b s' → Reaches acts flows.Run a s (flow_after j) b s'
+  ran_to a b s s' None h = h.0.same
+  ran_to a b s s' (Some jump) h = h.same
 
   -- what the run comes to
   pub came_over : (flow flow' : Flow I) (a b : Place I V) (s s' : S) (n used : ℕ) (j : Option Jump) → Spent acts flow a s n used flow' b s' → moving flow' b.frames ≡ false → over flow' ≡ Some j → used ≤ n → Came acts flow a s n (outcomes.Done used j) b s'

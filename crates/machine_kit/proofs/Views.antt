@@ -1,6 +1,6 @@
 -- The stacks that a list and its bases stand for, and how they change with them.
-use Rattle.std.proofs.Common.{◌≡◌, ℕ, ◌+◌, ◌-◌, ◌≤◌, min, List, [], ◌++◌, length, take, drop, reverse, set, refl, ap, sym, ◌∙◌, arith}
-use Rattle.std.proofs.lemmas.List.{reverse-append, reverse-reverse, length-reverse, take-append-drop, drop_at, take_at, drop_all, take_all, length-append, length-drop, length-take-le, drop-drop, drop-take, take-take, drop-append-le, take-append-le, drop-set-add, take-set-le, take_rest}
+use Rattle.std.proofs.Common.{◌≡◌, ℕ, ◌+◌, ◌-◌, ◌≤◌, ◌<◌, min, List, [], ◌∷◌, ◌++◌, length, take, drop, reverse, set, refl, ap, sym, ◌∙◌, arith}
+use Rattle.std.proofs.lemmas.List.{reverse-append, reverse-reverse, length-reverse, take-append-drop, drop_at, take_at, drop_all, take_all, length-append, length-drop, length-take-le, drop-drop, drop-take, take-take, drop-append-le, take-append-le, drop-set-add, take-set-le, take_more_set, take_rest}
 use Rattle.machine_kit.specs.Stacks.{Stack}
 use native.Mathlib.Decide.{dec_le}
 
@@ -65,6 +65,27 @@ module _ {V : Type 0} where
       ∙ same_stack _ _ _ _
       (ap (λ k. reverse (drop start (take k xs))) m ∙ ap reverse (drop-take start (length (drop start xs) - count) xs) ∙ sym (reversed_rest count (drop start xs)))
       (ap reverse (take-take base left xs (omega arith)))
+
+  -- a value in the place of so many at the end
+  put_over : (z : List V) (count : ℕ) (value : V) → 0 < count → count ≤ length z → reverse (take (length z - count + 1) (set z (length z - count) value)) ≡ value ∷ drop count (reverse z)
+  put_over z count value some within =
+      ap reverse (take_more_set z (length z - count) value (omega arith))
+      ∙ reverse-append (take (length z - count) z) (value ∷ [])
+      ∙ ap (λ l. value ∷ l) (sym (reversed_rest count z))
+
+  pub operands-put : (xs ys : List V) (base start at count : ℕ) (value : V) → base ≤ start → start ≤ length xs → 0 < count → count ≤ length xs - start → at ≡ length xs - count → ys ≡ take (at + 1) (set xs at value) → operands_of ys base start ≡ record (operands_of xs base start) { used = value ∷ drop count (reverse (drop start xs)) }
+  operands-put xs ys base start at count value l h some within e f =
+      let z = drop start xs in
+      let m : at ≡ start + (length z - count) = omega (arith, length-drop start xs) in
+      let k : at + 1 ≡ start + (length z - count + 1) = omega (arith, length-drop start xs) in
+      ap (λ ys. operands_of ys base start) f
+      ∙ same_stack _ _ _ _
+      (ap (λ n. reverse (drop start (take n (set xs at value)))) k
+      ∙ ap reverse (drop-take start (length z - count + 1) (set xs at value))
+      ∙ ap (λ n. reverse (take (length z - count + 1) (drop start (set xs n value)))) m
+      ∙ ap (λ w. reverse (take (length z - count + 1) w)) (drop-set-add start xs (length z - count) value)
+      ∙ put_over z count value some (omega (arith, length-drop start xs)))
+      (ap reverse (take-take base (at + 1) (set xs at value) (omega arith) ∙ take-set-le base xs at value (omega arith)))
 
   pub operands-top : (xs ys : List V) (start from count : ℕ) → start ≤ length xs → from ≡ length xs - min (length xs - start) count → ys ≡ xs → take (length ys - from) (drop from ys) ≡ reverse (take count (reverse (drop start xs)))
   operands-top xs ys start from count h e f =

@@ -6,5 +6,6 @@ pub mod Heads
 pub mod Machines
 pub mod Pending
 pub mod Stacks
+pub mod Stretches
 pub mod Turning
 pub mod Whole

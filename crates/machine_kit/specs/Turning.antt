@@ -22,6 +22,11 @@ abbrev pub loop_code : {I : Type 0} → List (Frame I) → Option (List I)
 loop_code (frames.Loop p r n body rest ∷ more) = Some body.now
 loop_code _ = None
 
+-- the form that is innermost is a loop, of which a pass takes so many operands and has this code
+abbrev pub IsPass : {I : Type 0} → ℕ → List I → List (Frame I) → Type 0
+IsPass takes code (frames.Loop p r n body rest ∷ more) = (p ≡ takes) × (body.now ≡ code)
+IsPass takes code _ = ⊥
+
 module _ {I V : Type 0} where
   -- the machine before its next pass through a loop
   abbrev pub passed_place : Option (List I) → Place I V → Place I V

@@ -1,12 +1,16 @@
 // What each form of an instruction does to a machine.
 
-ghost use Rattle.std.specs.Prelude.{◌≡◌, ◌∷◌, cond, IfOk, OnOk};
+ghost use Rattle.std.specs.Prelude.{◌≡◌, List, ◌∷◌, cond, IfOk, OnOk};
+ghost use Rattle.machine_kit.specs.declared.frame.Frame.{Frame};
 ghost use Rattle.machine_kit.specs.Machines.{Moves, place_of, flow_after};
+ghost use Rattle.machine_kit.specs.Stretches.{Stretch, Stops, is_plain};
 ghost use Rattle.machine_kit.specs.Heads.{HeadIs};
 
 use crate::frame::{Flow, Frame, open};
 use crate::head::Head;
+use crate::locals::Locals;
 use crate::machine::Machine;
+use crate::operands::Operands;
 use crate::version::Version;
 use evaluation_kit::Jump;
 use std::alloc::AllocError;
@@ -21,19 +25,46 @@ pub(crate) fn after<'a, I>(jump: Option<Jump>) -> Flow<'a, I>
     }
 }
 
-fn run_plain<'a, I: Drop, V: Copy, S, P: Version<I, V, S>>(
-    version: &P,
-    instr: &'a I,
-    rest: &'a [I],
-    machine: &mut Machine<'a, I, V>,
-    state: &mut S,
-) -> Result<Flow<'a, I>, AllocError>
-    requires { HeadIs ((P.acts version.now).form instr.now) Head.Flat }
-    ensures { IfOk result (λ flow. Moves (P.acts version.now) Flow.Run (record (place_of machine.old) { code = instr.now ∷ rest.now }) state.old flow (place_of machine.new) state.new) }
+/// Whether an instruction is plain.
+fn is_plain<'a, I>(head: &Head<'a, I>) -> bool
+    ensures { result ≡ is_plain head.now }
 {
-    let jump = version.leaf(instr, &mut machine.operands, &mut machine.locals, state)?;
-    machine.code = rest;
-    Ok(after(jump))
+    match head {
+        Head::Flat => true,
+        _ => false,
+    }
+}
+
+/// Where plain instructions came to: the code behind them, and the jump by which the last one ended, if it did not end at
+/// its end.
+#[derive(Drop)]
+pub(crate) struct Ran<'a, I> {
+    pub(crate) code: &'a [I],
+    pub(crate) jump: Option<Jump>,
+}
+
+/// Does the plain instructions in front of code, up to one that jumps.
+pub(crate) fn run_plain<'a, I: Drop, V: Copy, S, P: Version<I, V, S>>(
+    version: &P,
+    start: &'a [I],
+    operands: &mut Operands<V>,
+    locals: &mut Locals<V>,
+    state: &mut S,
+) -> Result<Ran<'a, I>, AllocError>
+    ensures { IfOk result (λ ran. (frames : List (Frame I)) → Stretch (P.acts version.now) (record { code = start.now; operands = operands.old; locals = locals.old; frames = frames }) state.old ran.jump (record { code = ran.code.now; operands = operands.new; locals = locals.new; frames = frames }) state.new) }
+{
+    let mut code = start;
+    while let Some((instr, rest)) = code.split_first() {
+        if !is_plain(&version.head(instr)) {
+            return Ok(Ran { code, jump: None });
+        }
+        let jump = version.leaf(instr, operands, locals, state)?;
+        if jump.is_some() {
+            return Ok(Ran { code: rest, jump });
+        }
+        code = rest;
+    }
+    Ok(Ran { code, jump: None })
 }
 
 fn run_block<'a, I: Drop, V: Copy, S, P: Version<I, V, S>>(
@@ -162,19 +193,20 @@ fn run_picked_call<'a, I: Drop, V: Copy, S, P: Version<I, V, S>>(
     Ok(Flow::Enter(func))
 }
 
-/// Runs the next instruction of the code, or comes to its end.
-pub(crate) fn exec<'a, I: Drop, V: Copy, S, P: Version<I, V, S>>(
+/// Opens the form or the call in front of the code, or comes to its end.
+fn open_next<'a, I: Drop, V: Copy, S, P: Version<I, V, S>>(
     version: &P,
     machine: &mut Machine<'a, I, V>,
     state: &mut S,
 ) -> Result<Flow<'a, I>, AllocError>
+    requires { Stops (P.acts version.now) (place_of machine.old).code }
     ensures { IfOk result (λ flow. Moves (P.acts version.now) Flow.Run (place_of machine.old) state.old flow (place_of machine.new) state.new) }
 {
     let Some((instr, rest)) = machine.code.split_first() else {
         return Ok(Flow::Close(None));
     };
     match version.head(instr) {
-        Head::Flat => run_plain(version, instr, rest, machine, state),
+        Head::Flat => unreachable!(),
         Head::InvokeBy(takes) => {
             let flow = run_picked_call(version, instr, takes, rest, machine, state)?;
             Ok(flow)
@@ -199,5 +231,30 @@ pub(crate) fn exec<'a, I: Drop, V: Copy, S, P: Version<I, V, S>>(
             run_call(version, instr, takes, func, rest, machine)?;
             Ok(Flow::Enter(func))
         }
+    }
+}
+
+/// Runs the plain instructions in front of the code, and then opens the form or the call behind them, or comes to the end.
+pub(crate) fn exec<'a, I: Drop, V: Copy, S, P: Version<I, V, S>>(
+    version: &P,
+    machine: &mut Machine<'a, I, V>,
+    state: &mut S,
+) -> Result<Flow<'a, I>, AllocError>
+    ensures { IfOk result (λ flow. Moves (P.acts version.now) Flow.Run (place_of machine.old) state.old flow (place_of machine.new) state.new) }
+{
+    let ran = run_plain(
+        version,
+        machine.code,
+        &mut machine.operands,
+        &mut machine.locals,
+        state,
+    )?;
+    machine.code = ran.code;
+    match ran.jump {
+        None => {
+            let flow = open_next(version, machine, state)?;
+            Ok(flow)
+        }
+        jump => Ok(Flow::Close(jump)),
     }
 }

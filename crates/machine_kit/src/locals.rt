@@ -34,6 +34,7 @@ impl<V: Copy> Locals<V> {
     }
 
     /// The local with this index.
+    #[inline(always)]
     pub fn get(&self, index: usize) -> Option<V>
         ensures { result ≡ slice_get self.now.used index }
     {
@@ -45,6 +46,7 @@ impl<V: Copy> Locals<V> {
     }
 
     /// Writes the local with this index, where there is one.
+    #[inline(always)]
     pub fn set(&mut self, index: usize, value: V)
         ensures { self.new ≡ record self.old { used = set self.old.used index value } }
     {

@@ -1,4 +1,6 @@
-ghost use Rattle.std.specs.Prelude.{◌≡◌, ◌++◌, ◌≤◌, take, drop, vec_len};
+ghost use Rattle.std.specs.Prelude.{◌≡◌, ◌++◌, ◌<◌, ◌≤◌, take, drop, vec_len, vec_capacity, OnOk};
+
+use std::alloc::AllocError;
 
 /// Takes the items between two places out.
 pub(crate) fn take_out<V: Copy>(items: &mut Vec<V>, to: usize, from: usize)
@@ -11,4 +13,15 @@ pub(crate) fn take_out<V: Copy>(items: &mut Vec<V>, to: usize, from: usize)
         items.as_mut_slice().copy_within(from..end, to);
         items.truncate(to + (end - from));
     }
+}
+
+/// Makes room for one more item.
+#[cold]
+#[inline(never)]
+pub(crate) fn make_room<V>(items: &mut Vec<V>) -> Result<(), AllocError>
+    ensures same { items.new.items ≡ items.old.items }
+    ensures len { vec_len items.new ≡ vec_len items.old }
+    ensures room { OnOk result (vec_len items.new < vec_capacity items.new) }
+{
+    items.reserve(1)
 }

@@ -1,6 +1,6 @@
 ghost use Rattle.std.specs.Prelude.{◌≡◌, [], ◌∷◌, ◌++◌, length, take, drop, reverse, slice_get, OnOk, MatchOption};
 
-use crate::moving::take_out;
+use crate::moving::{make_room, take_out};
 use std::alloc::{AllocError, Global};
 use std::marker::Model;
 
@@ -44,14 +44,46 @@ impl<V: Copy> Operands<V> {
     }
 
     /// Puts an operand on top.
+    #[inline(always)]
     pub fn push(&mut self, value: V) -> Result<(), AllocError>
         ensures { OnOk result (self.new ≡ record self.old { used = value ∷ self.old.used }) }
     {
-        self.items.push(value)?;
+        if self.items.len() == self.items.capacity() {
+            make_room(&mut self.items)?;
+        }
+        self.items.push_reserved(value);
         Ok(())
     }
 
+    /// Takes so many operands from the top, or all that are in use, and puts this one there.
+    #[inline(always)]
+    pub fn put(&mut self, count: usize, value: V) -> Result<(), AllocError>
+        ensures { OnOk result (self.new ≡ record self.old { used = value ∷ drop count self.old.used }) }
+    {
+        if count == 0 {
+            return self.push(value);
+        }
+        if count <= self.items.len() - self.start {
+            let at = self.items.len() - count;
+            self.items[at] = value;
+            self.items.truncate(at + 1);
+            return Ok(());
+        }
+        self.put_slowly(count, value)
+    }
+
+    /// The same, however many are in use.
+    #[cold]
+    #[inline(never)]
+    fn put_slowly(&mut self, count: usize, value: V) -> Result<(), AllocError>
+        ensures { OnOk result (self.new ≡ record self.old { used = value ∷ drop count self.old.used }) }
+    {
+        self.drop_top(count);
+        self.push(value)
+    }
+
     /// The operand that lies under so many others.
+    #[inline(always)]
     pub fn peek(&self, skip: usize) -> Option<V>
         ensures { result ≡ slice_get self.now.used skip }
     {
@@ -80,6 +112,7 @@ impl<V: Copy> Operands<V> {
     }
 
     /// Takes so many operands from the top, or all that are in use.
+    #[inline(always)]
     pub fn drop_top(&mut self, count: usize)
         ensures { self.new ≡ record self.old { used = drop count self.old.used } }
     {

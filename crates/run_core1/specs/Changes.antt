@@ -1,15 +1,11 @@
 -- A plain instruction of 1.0 as a call: it is given the topmost operands and the state, and answers what becomes of the
 -- operands.
-use Rattle.std.specs.Prelude.{◌≡◌, ◌<◌, ◌^◌, List, [], ◌∷◌, drop}
-use Rattle.num_core.specs.Integers.{bits}
-use Rattle.core1_ast.specs.declared.module.op.Op1.{Op1}
-use Rattle.core1_ast.specs.declared.module.op.Op1.TheVariants as ops
-use Rattle.core1_ast.specs.declared.module.op.Conv1.TheVariants.{Ext32S}
+use Rattle.std.specs.Prelude.{◌≡◌, List, [], ◌∷◌, drop}
 use Rattle.outcome_kit.specs.Code.{Go, Leave}
 use Rattle.evaluation_kit.specs.Configurations.{Plain, PlainRes}
 use Rattle.evaluation_kit.specs.Leaves.{top, below, with_operands}
 use Rattle.meaning_core1.specs.declared.val1.Val1.{Val1}
-use Rattle.meaning_core1.specs.Store.{absent, number1}
+use Rattle.meaning_core1.specs.Store.{absent}
 use Rattle.run_core1.specs.declared.change.Change.{Change}
 use Rattle.run_core1.specs.declared.change.Change.TheVariants.{Take, Put, Exit}
 
@@ -29,11 +25,3 @@ abbrev pub Does : {S : Type 0} → (Plain Val1 S → PlainRes Val1 S) → List V
 Does act given old change new =
     (operands locals : List Val1) → Lie given operands
     → act (record { operands = operands; locals = locals; state = old }) ≡ changed change (record { operands = operands; locals = locals; state = new })
-
--- the operands of a numeric instruction are integers of its width, as they are in code that is typed
-abbrev pub AreOfWidth : Op1 → List Val1 → Type 0
-AreOfWidth (ops.Unary w op) operands = number1 (top absent operands) < 2 ^ bits w
-AreOfWidth (ops.Compare w op) operands = (number1 (top absent operands) < 2 ^ bits w) × (number1 (top absent (below operands)) < 2 ^ bits w)
-AreOfWidth (ops.Binary w op) operands = (number1 (top absent operands) < 2 ^ bits w) × (number1 (top absent (below operands)) < 2 ^ bits w)
-AreOfWidth (ops.Convert Ext32S) operands = number1 (top absent operands) < 2 ^ 32
-AreOfWidth _ operands = Unit {0}

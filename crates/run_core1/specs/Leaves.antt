@@ -17,15 +17,16 @@ use Rattle.run_core1.specs.Changes.{changed}
 abbrev pub act1 : Module1 → Instr1 → Plain Val1 State1 → PlainRes Val1 State1
 act1 m i = act_of (layer1 m Instr1 (out-Instr1 i))
 
--- an instruction does this change to these operands, and makes the second locals and state of the first
-abbrev pub Changes : (Plain Val1 State1 → PlainRes Val1 State1) → Stack Val1 → List Val1 → State1 → Change → List Val1 → State1 → Type 0
-Changes act o l s change l' s' =
-    act (record { operands = o.used; locals = l; state = s }) ≡ changed change (record { operands = o.used; locals = l'; state = s' })
-
 -- a change is made to the operands in use, and the instruction ends so
 abbrev pub Settles : Change → Stack Val1 → Stack Val1 → Option Jump → Type 0
 Settles change o o' j =
     ((locals : List Val1) (s : State1) → changed change (record { operands = o.used; locals = locals; state = s }) ≡ ended_by j (record { operands = o'.used; locals = locals; state = s }))
+    × (o'.aside ≡ o.aside)
+
+-- an instruction makes the second operands, locals and state of the first, and ends so
+abbrev pub Ends : (Plain Val1 State1 → PlainRes Val1 State1) → Stack Val1 → List Val1 → State1 → Stack Val1 → List Val1 → State1 → Option Jump → Type 0
+Ends act o l s o' l' s' j =
+    (act (record { operands = o.used; locals = l; state = s }) ≡ ended_by j (record { operands = o'.used; locals = l'; state = s' }))
     × (o'.aside ≡ o.aside)
 
 -- instructions on locals, on the store, and of control that are plain

@@ -3,13 +3,17 @@ ghost use Rattle.std.specs.Prelude.{◌≡◌, ℕ, List, set, slice_index_or, I
 ghost use Rattle.core1_ast.specs.declared.module.code.Instr1.{out-Instr1};
 ghost use Rattle.core1_ast.specs.declared.module.parts.Module1.{Module1};
 ghost use Rattle.evaluation_kit.specs.Leaves.{top, below, on_operands};
+ghost use Rattle.machine_kit.specs.Heads.{Acted};
 ghost use Rattle.meaning_core1.specs.Store.{State1, absent};
 ghost use Rattle.meaning_core1.specs.Operators.{pure_op};
-ghost use Rattle.run_core1.specs.Leaves.{act1, Changes, Settles, IsOnLocals, IsOnStore, IsJump};
+ghost use Rattle.run_core1.specs.Leaves.{act1, Settles, Ends, IsOnLocals, IsOnStore, IsJump};
 
 use crate::change::Change;
 use crate::constants::ABSENT;
-use crate::numeric::{are_of_width, branch_if, branch_table, operator, select};
+use crate::numeric::{
+    binary_operator, branch_if, branch_table, comparison, conversion, select, test_operator,
+    unary_operator,
+};
 use crate::state::State;
 use core1_ast::module::{Instr1, Op1};
 use evaluation_kit::Jump;
@@ -39,6 +43,7 @@ fn third(operands: &Operands<Val1>) -> Val1
 }
 
 /// Makes a change to the operands. The answer is the jump by which the instruction ends, if it does not end at its end.
+#[inline(always)]
 pub(crate) fn settle(
     change: Change,
     operands: &mut Operands<Val1>,
@@ -51,8 +56,7 @@ pub(crate) fn settle(
             Ok(None)
         }
         Change::Put(count, value) => {
-            operands.drop_top(count);
-            operands.push(value)?;
+            operands.put(count, value)?;
             Ok(None)
         }
         Change::Exit(count, jump) => {
@@ -62,22 +66,25 @@ pub(crate) fn settle(
     }
 }
 
-/// What a plain instruction does to the operands, after it has changed the locals and the state. It fails for want of
-/// memory, and where a numeric instruction finds an operand that is no integer of its width.
+/// Does a plain instruction. The answer is the jump by which it ends, if it does not end at its end.
+#[inline(always)]
 pub(crate) fn plain(
     instr: &Instr1,
-    operands: &Operands<Val1>,
+    operands: &mut Operands<Val1>,
     locals: &mut Locals<Val1>,
     state: &mut State,
-) -> Result<Change, AllocError>
-    ensures { (m : Module1) → IfOk result (λ change. Changes (act1 m instr.now) operands.now locals.old.used state.old change locals.new.used state.new × (locals.new.aside ≡ locals.old.aside)) }
+) -> Result<Option<Jump>, AllocError>
+    ensures { (m : Module1) → IfOk result (λ jump. Acted (act1 m instr.now) operands.old locals.old state.old operands.new locals.new state.new jump) }
 {
     match instr {
         Instr1::Pure(op) => Ok(numeric_leaf(*op, operands)?),
-        Instr1::Drop => Ok(Change::Take(1)),
-        Instr1::Select => Ok(select(top(operands), next(operands), third(operands))),
+        Instr1::Drop => settle(Change::Take(1), operands),
+        Instr1::Select => {
+            let change = select(top(operands), next(operands), third(operands));
+            settle(change, operands)
+        }
         Instr1::LocalGet(_) | Instr1::LocalSet(_) | Instr1::LocalTee(_) => {
-            Ok(local_leaf(instr, operands, locals))
+            Ok(local_leaf(instr, operands, locals)?)
         }
         Instr1::GlobalGet(_)
         | Instr1::GlobalSet(_)
@@ -90,46 +97,69 @@ pub(crate) fn plain(
         | Instr1::BrIf(_)
         | Instr1::BrTable(_, _)
         | Instr1::Return
-        | Instr1::Float(_, _) => Ok(jump_leaf(instr, operands)),
+        | Instr1::Float(_, _) => Ok(jump_leaf(instr, operands)?),
         Instr1::Nop
         | Instr1::Block(_, _)
         | Instr1::Loop(_, _)
         | Instr1::If(_, _, _)
         | Instr1::Call(_)
-        | Instr1::CallIndirect(_) => Ok(Change::Take(0)),
+        | Instr1::CallIndirect(_) => Ok(None),
     }
 }
 
-/// What a numeric instruction does.
-fn numeric_leaf(op: Op1, operands: &Operands<Val1>) -> Result<Change, AllocError>
-    ensures { (m : Module1) (l : List Val1) (s : State1) → IfOk result (λ change. Changes (on_operands (pure_op op)) operands.now l s change l s) }
+/// Does a numeric instruction.
+#[inline(always)]
+fn numeric_leaf(op: Op1, operands: &mut Operands<Val1>) -> Result<Option<Jump>, AllocError>
+    ensures { (l : List Val1) (s : State1) → IfOk result (λ jump. Ends (on_operands (pure_op op)) operands.old l s operands.new l s jump) }
 {
-    let top = top(operands);
-    let next = next(operands);
-    if are_of_width(op, top, next) {
-        Ok(operator(op, top, next))
-    } else {
-        Err(AllocError)
+    match op {
+        Op1::I32Const(i) => settle(Change::Put(0, Val1::I32(i)), operands),
+        Op1::I64Const(i) => settle(Change::Put(0, Val1::I64(i)), operands),
+        Op1::Eqz(width) => {
+            let change = test_operator(width, top(operands));
+            settle(change, operands)
+        }
+        Op1::Compare(width, op) => {
+            let change = comparison(width, op, top(operands), next(operands));
+            settle(change, operands)
+        }
+        Op1::Unary(width, op) => {
+            let change = unary_operator(width, op, top(operands));
+            settle(change, operands)
+        }
+        Op1::Binary(width, op) => {
+            let change = binary_operator(width, op, top(operands), next(operands));
+            settle(change, operands)
+        }
+        Op1::Convert(op) => {
+            let change = conversion(op, top(operands));
+            settle(change, operands)
+        }
     }
 }
 
-/// What an instruction on locals does.
-fn local_leaf(instr: &Instr1, operands: &Operands<Val1>, locals: &mut Locals<Val1>) -> Change
+/// Does an instruction on locals.
+#[inline(always)]
+fn local_leaf(
+    instr: &Instr1,
+    operands: &mut Operands<Val1>,
+    locals: &mut Locals<Val1>,
+) -> Result<Option<Jump>, AllocError>
     requires { IsOnLocals (out-Instr1 instr.now) }
-    ensures act { (m : Module1) (s : State1) → Changes (act1 m instr.now) operands.now locals.old.used s result locals.new.used s }
+    ensures act { (m : Module1) (s : State1) → IfOk result (λ jump. Ends (act1 m instr.now) operands.old locals.old.used s operands.new locals.new.used s jump) }
     ensures aside { locals.new.aside ≡ locals.old.aside }
 {
     match instr {
-        Instr1::LocalGet(index) => Change::Put(0, local(locals, *index)),
+        Instr1::LocalGet(index) => settle(Change::Put(0, local(locals, *index)), operands),
         Instr1::LocalSet(index) => {
             locals.set(*index as usize, top(operands));
-            Change::Take(1)
+            settle(Change::Take(1), operands)
         }
         Instr1::LocalTee(index) => {
             locals.set(*index as usize, top(operands));
-            Change::Take(0)
+            Ok(None)
         }
-        _ => Change::Take(0),
+        _ => Ok(None),
     }
 }
 
@@ -143,36 +173,55 @@ fn local(locals: &Locals<Val1>, index: u32) -> Val1
     }
 }
 
-/// What an instruction on globals or memory does.
+/// Does an instruction on globals or memory.
 fn store_leaf(
     instr: &Instr1,
-    operands: &Operands<Val1>,
+    operands: &mut Operands<Val1>,
     state: &mut State,
-) -> Result<Change, AllocError>
+) -> Result<Option<Jump>, AllocError>
     requires { IsOnStore (out-Instr1 instr.now) }
-    ensures { (m : Module1) (l : List Val1) → IfOk result (λ change. Changes (act1 m instr.now) operands.now l state.old change l state.new) }
+    ensures { (m : Module1) (l : List Val1) → IfOk result (λ jump. Ends (act1 m instr.now) operands.old l state.old operands.new l state.new jump) }
 {
     match instr {
-        Instr1::GlobalGet(global) => Ok(state.global_get(*global)),
-        Instr1::GlobalSet(global) => Ok(state.global_set(*global, top(operands))),
-        Instr1::Load(op, at) => Ok(state.load(*op, *at, top(operands))),
-        Instr1::Store(op, at) => Ok(state.store(*op, *at, top(operands), next(operands))),
-        Instr1::MemorySize => Ok(state.memory_size()),
-        Instr1::MemoryGrow => state.memory_grow(top(operands)),
-        _ => Ok(Change::Take(0)),
+        Instr1::GlobalGet(global) => settle(state.global_get(*global), operands),
+        Instr1::GlobalSet(global) => {
+            let change = state.global_set(*global, top(operands));
+            settle(change, operands)
+        }
+        Instr1::Load(op, at) => {
+            let change = state.load(*op, *at, top(operands));
+            settle(change, operands)
+        }
+        Instr1::Store(op, at) => {
+            let change = state.store(*op, *at, top(operands), next(operands));
+            settle(change, operands)
+        }
+        Instr1::MemorySize => settle(state.memory_size(), operands),
+        Instr1::MemoryGrow => {
+            let change = state.memory_grow(top(operands))?;
+            settle(change, operands)
+        }
+        _ => Ok(None),
     }
 }
 
-/// What a plain instruction of control does.
-fn jump_leaf(instr: &Instr1, operands: &Operands<Val1>) -> Change
+/// Does a plain instruction of control.
+#[inline(always)]
+fn jump_leaf(instr: &Instr1, operands: &mut Operands<Val1>) -> Result<Option<Jump>, AllocError>
     requires { IsJump (out-Instr1 instr.now) }
-    ensures { (m : Module1) (l : List Val1) (s : State1) → Changes (act1 m instr.now) operands.now l s result l s }
+    ensures { (m : Module1) (l : List Val1) (s : State1) → IfOk result (λ jump. Ends (act1 m instr.now) operands.old l s operands.new l s jump) }
 {
     match instr {
-        Instr1::Br(label) => Change::Exit(0, Jump::Branch(*label)),
-        Instr1::BrIf(label) => branch_if(*label, top(operands)),
-        Instr1::BrTable(labels, last) => branch_table(labels.as_slice(), *last, top(operands)),
-        Instr1::Return => Change::Exit(0, Jump::Return),
-        _ => Change::Exit(0, Jump::Trap),
+        Instr1::Br(label) => Ok(Some(Jump::Branch(*label))),
+        Instr1::BrIf(label) => {
+            let change = branch_if(*label, top(operands));
+            settle(change, operands)
+        }
+        Instr1::BrTable(labels, last) => {
+            let change = branch_table(labels.as_slice(), *last, top(operands));
+            settle(change, operands)
+        }
+        Instr1::Return => Ok(Some(Jump::Return)),
+        _ => Ok(Some(Jump::Trap)),
     }
 }

@@ -16,7 +16,7 @@ pub enum Mark1 {
 }
 
 /// The events among what a run has left behind: all that its host sees. It fails for want of memory alone.
-pub fn events(alloc: Global, marks: Vec<Mark1>) -> Result<Items<Event>, AllocError>
+pub(crate) fn events(alloc: Global, marks: Vec<Mark1>) -> Result<Items<Event>, AllocError>
     ensures { IfOk result (λ seen. seen ≡ events (map mark_of marks.items)) }
 {
     let mut seen = Items::new(alloc);

@@ -10,7 +10,7 @@ ghost use Rattle.machine_kit.proofs.Laws.{laws_of};
 ghost use Rattle.meaning_core1.specs.Store.{zero_of_type};
 ghost use Rattle.meaning_core1.specs.Language.{language1, layer1, callee1, block_results};
 
-use crate::leaves::{plain, settle, top};
+use crate::leaves::{plain, top};
 use crate::numeric::is_true;
 use crate::program::{Callee1, Program, zero};
 use crate::state::State;
@@ -23,6 +23,7 @@ use std::alloc::AllocError;
 impl<'p, 's> Version<Instr1, Val1, State<'s>> for Program<'p> {
     ghost acts = { λ m. acts_of (language1 m) out-Instr1 };
 
+    #[inline(always)]
     fn head<'a>(&self, instr: &'a Instr1) -> Head<'a, Instr1>
         ensures { HeadIs (layer1 self.now Instr1 (out-Instr1 instr.now)) result }
     {
@@ -38,6 +39,7 @@ impl<'p, 's> Version<Instr1, Val1, State<'s>> for Program<'p> {
         }
     }
 
+    #[inline(always)]
     fn leaf(
         &self,
         instr: &Instr1,
@@ -47,8 +49,7 @@ impl<'p, 's> Version<Instr1, Val1, State<'s>> for Program<'p> {
     ) -> Result<Option<Jump>, AllocError>
         ensures { IfOk result (λ jump. Acted (act1 self.now instr.now) operands.old locals.old state.old operands.new locals.new state.new jump) }
     {
-        let change = plain(instr, operands, locals, state)?;
-        settle(change, operands)
+        plain(instr, operands, locals, state)
     }
 
     fn test(&self, instr: &Instr1, operands: &Operands<Val1>) -> bool

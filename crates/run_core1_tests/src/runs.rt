@@ -1,8 +1,9 @@
+use crate::instructions::INSTRUCTIONS;
 use crate::rows::{ROWS, Row};
 use core1_bytes::read1;
 use host_kit::{fits1, print, read_script};
 use num_core::lists::Text;
-use run_core1::{events, run};
+use run_core1::run_core1;
 use std::alloc::Global;
 use std::test::Fail;
 use valid_core1::validate1;
@@ -15,19 +16,29 @@ fn printed(alloc: Global, row: &Row) -> Result<Text, Fail> {
     if !fits1(typed.module(), &script) {
         return Err("does not fit".into());
     }
-    let marks = run(alloc, typed.module(), &script, row.turns)?;
-    let seen = events(alloc, marks)?;
+    let seen = run_core1(alloc, &typed, &script, row.turns)?;
     Ok(print(alloc, seen.as_slice())?)
 }
 
-#[test]
-fn rows(rt: HostRuntime) -> Result<(), Fail> {
+/// How many of the rows print something else than what they say.
+fn wrong(alloc: Global, rows: &[Row]) -> Result<usize, Fail> {
     let mut wrong = 0usize;
-    for row in &ROWS {
-        if printed(rt.alloc(), row)?.as_str() != row.printed {
+    for row in rows {
+        if printed(alloc, row)?.as_str() != row.printed {
             wrong = wrong.saturating_add(1);
         }
     }
-    assert_eq!(rt; wrong, 0);
+    Ok(wrong)
+}
+
+#[test]
+fn runs(rt: HostRuntime) -> Result<(), Fail> {
+    assert_eq!(rt; wrong(rt.alloc(), &ROWS)?, 0);
+    Ok(())
+}
+
+#[test]
+fn instructions(rt: HostRuntime) -> Result<(), Fail> {
+    assert_eq!(rt; wrong(rt.alloc(), &INSTRUCTIONS)?, 0);
     Ok(())
 }

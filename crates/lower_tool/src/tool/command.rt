@@ -1,33 +1,48 @@
-ghost use Rattle.std.specs.Prelude.{◌≡◌, MatchOption};
+ghost use Rattle.std.specs.Prelude.{◌≡◌, ℕ, ◌<◌, ◌^◌, nat_le, get_or, MatchOption, option_map};
+ghost use Rattle.std.specs.Fmt.{decimal};
 ghost use Rattle.lower_tool.specs.Commands.{command_of};
-ghost use Rattle.lower_tool.specs.Words.{IsCommand, words_of, input_of};
+ghost use Rattle.lower_tool.specs.Words.{IsCommand, Say, input_of, script_of};
 
 use num_core::lists::Text;
 use wasm_frame::sections::Version;
 
-/// A command with the names that its words give.
+/// A command with what its words give.
 #[derive(Clone, Copy)]
 pub enum Command<'a> {
     /// `lower IN OUT`: OUT becomes the lowered module of IN.
     Lower(&'a str, &'a str),
     /// `check1 IN` or `check3 IN`: whether IN is a valid module of 1.0 or of 3.0.
     Check(Version, &'a str),
+    /// `run1 IN SCRIPT TURNS`: the events of the module of 1.0 IN under SCRIPT within so many turns.
+    Run1(&'a str, &'a str, u64),
 }
 
 impl<'a> Command<'a> {
-    /// The name of the file that it reads.
+    /// The name of the file of the module that it reads.
     pub fn input(self) -> &'a str
         ensures { result.now ≡ input_of (command_of self.entry) }
     {
         match self {
-            Command::Lower(input, _) | Command::Check(_, input) => input,
+            Command::Lower(input, _) | Command::Check(_, input) | Command::Run1(input, _, _) => {
+                input
+            }
+        }
+    }
+
+    /// The name of the file of the script that it reads, if it reads one.
+    pub fn script(self) -> Option<&'a str>
+        ensures { option_map (λ script. script.now) result ≡ script_of (command_of self.entry) }
+    {
+        match self {
+            Command::Run1(_, script, _) => Some(script),
+            Command::Lower(_, _) | Command::Check(_, _) => None,
         }
     }
 }
 
 /// The command that the words are, if they are one.
 pub fn parse(words: &[Text]) -> Option<Command<'_>>
-    ensures { MatchOption result (¬ IsCommand words.now) (λ command. words.now ≡ words_of (command_of command)) }
+    ensures { MatchOption result (¬ IsCommand words.now) (λ command. Say words.now (command_of command)) }
 {
     match words {
         [word, input, output] if word.as_str() == "lower" => {
@@ -39,6 +54,31 @@ pub fn parse(words: &[Text]) -> Option<Command<'_>>
         [word, input] if word.as_str() == "check3" => {
             Some(Command::Check(Version::Three, input.as_str()))
         }
+        [word, input, script, turns] if word.as_str() == "run1" => Some(Command::Run1(
+            input.as_str(),
+            script.as_str(),
+            turns_of(turns.as_str())?,
+        )),
         _ => None,
     }
+}
+
+/// The number below 2^64 that is written so, in decimal and without a zero in front.
+fn turns_of(text: &str) -> Option<u64>
+    ensures { MatchOption result ((turns : ℕ) → turns < 2 ^ 64 → text.now ≡ decimal turns → ⊥) (λ turns. (turns < 2 ^ 64) × (text.now ≡ decimal turns)) }
+{
+    if text == "0" {
+        return Some(0);
+    }
+    if begins_low(text.as_bytes()) {
+        return None;
+    }
+    text.parse().ok()
+}
+
+/// Whether a text is empty, or its first byte is that of a zero or one below it, as a sign is.
+fn begins_low(text: &[u8]) -> bool
+    ensures { result ≡ nat_le (get_or text.now 0 0) 48 }
+{
+    text.is_empty() || text[0] <= b'0'
 }

@@ -1,4 +1,4 @@
-ghost use Rattle.std.specs.Prelude.{◌≡◌, ℕ, ◌≤◌, ◌⊎◌, List};
+ghost use Rattle.std.specs.Prelude.{◌≡◌, ℕ, ◌≤◌, ◌⊎◌, List, IsOk, IsErr};
 ghost use Rattle.std.specs.Io.KnownBytes.{Appends};
 ghost use Rattle.tool_files.specs.Causes.{Rose};
 ghost use Rattle.tool_files.specs.Held.{Sets};
@@ -6,9 +6,10 @@ ghost use Rattle.lower_tool.specs.Products.{IfFile, IfPrinted};
 ghost use Rattle.lower_tool.specs.Statuses.{LeavesFront, AppendsFront};
 
 use super::output::write_file;
-use super::print::print_all;
+use super::print::{print_all, print_run};
 use super::status;
 use crate::files::{FileFault, Files};
+use crate::running::Shown;
 use crate::sink::{Sink, SinkFault};
 use num_core::lists::Bytes;
 
@@ -17,8 +18,10 @@ use num_core::lists::Bytes;
 pub enum Product<'a> {
     /// A file of this name and these bytes.
     File(&'a str, Bytes),
-    /// A text that is printed.
-    Printed(Bytes),
+    /// The line `ok`.
+    Fine,
+    /// What is shown of a run.
+    Run(Shown),
 }
 
 /// Hands out what a command has made, and gives the status. It takes no memory.
@@ -42,9 +45,19 @@ pub fn deliver<F: Files, S: Sink>(product: &Product, files: &mut F, out: &mut S)
             Ok(()) => status::DONE,
             Err(FileFault::Failed) => status::CANNOT_WRITE,
         },
-        Product::Printed(text) => match print_all(text.as_slice(), out) {
-            Ok(()) => status::DONE,
-            Err(SinkFault::Failed) => status::CANNOT_WRITE,
-        },
+        Product::Fine => printed(print_all(b"ok\n", out)),
+        Product::Run(shown) => printed(print_run(shown, out)),
+    }
+}
+
+/// The status of a command that has printed, by how that ended.
+fn printed(ended: Result<(), SinkFault>) -> u8
+    ensures status { (result ≡ 0) ⊎ (result ≡ 4) }
+    ensures done { result ≡ 0 → IsOk ended }
+    ensures cut { result ≡ 4 → IsErr ended }
+{
+    match ended {
+        Ok(()) => status::DONE,
+        Err(SinkFault::Failed) => status::CANNOT_WRITE,
     }
 }

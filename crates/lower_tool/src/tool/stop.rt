@@ -11,13 +11,13 @@ use std::fmt;
 use std::fmt::Write;
 use thiserror::Error;
 
-/// A line of at most 48 bytes.
-pub type Line = ArrayString<48>;
+/// A line of at most 96 bytes.
+pub type Line = ArrayString<96>;
 
 /// Why a command stops before it writes.
 #[derive(Debug, Drop, Error)]
 pub enum Stop {
-    /// The verdict on the input is not fine.
+    /// The verdict on the input is not fine, or the script is refused.
     Refused(Refusal),
     /// A fault came while the input was read.
     CannotRead,

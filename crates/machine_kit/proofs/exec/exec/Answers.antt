@@ -1,17 +1,22 @@
-use Rattle.std.proofs.Common.{rules}
+use Rattle.machine_kit.specs.Machines.{place_of}
+use Rattle.machine_kit.proofs.Stretching.{standing, into_form, into_jump, stops_there}
 use Rattle.machine_kit.proofs.exec.exec.Goals as goal
 
-pub returns-in_ok-run_block-in-Enclose : goal.returns-in_ok-run_block-in-Enclose
-returns-in_ok-run_block-in-Enclose g c = let m = c.in_ok-run_block-in-Enclose.ensures c.args.state.now in search rules
+pub open_next-requires : goal.open_next-requires
+open_next-requires g c =
+    let v = g.P.Version.acts c.args.version.now in
+    let a = place_of c.args.machine.now in
+    stops_there v a (standing c.in_ok-ran.ran.code.now c.run_plain.new.operands c.run_plain.new.locals a.frames) c.args.state.now c.run_plain.new.state c.in_ok-ran.ran.jump c.in-None.is (c.in_ok-ran.ensures a.frames)
 
-pub returns-in_ok-run_loop-in-Repeat : goal.returns-in_ok-run_loop-in-Repeat
-returns-in_ok-run_loop-in-Repeat g c = let m = c.in_ok-run_loop-in-Repeat.ensures c.args.state.now in search rules
+pub returns-in_ok-flow-in-None : goal.returns-in_ok-flow-in-None
+returns-in_ok-flow-in-None g c =
+    let v = g.P.Version.acts c.args.version.now in
+    let a = place_of c.args.machine.now in
+    into_form v a (standing c.in_ok-ran.ran.code.now c.run_plain.new.operands c.run_plain.new.locals a.frames) (place_of c.open_next.new.machine) c.args.state.now c.run_plain.new.state c.open_next.new.state c.in_ok-ran.ran.jump c.in_ok-flow-in-None.flow
+    c.in-None.is (c.in_ok-ran.ensures a.frames) c.in_ok-flow-in-None.ensures
 
-pub returns-in_ok-run_choice-in-Choose : goal.returns-in_ok-run_choice-in-Choose
-returns-in_ok-run_choice-in-Choose g c = let m = c.in_ok-run_choice-in-Choose.ensures c.args.state.now in search rules
-
-pub returns-in_ok-run_guard-in-Guard : goal.returns-in_ok-run_guard-in-Guard
-returns-in_ok-run_guard-in-Guard g c = let m = c.in_ok-run_guard-in-Guard.ensures c.args.state.now in search rules
-
-pub returns-in_ok-run_call-in-Invoke : goal.returns-in_ok-run_call-in-Invoke
-returns-in_ok-run_call-in-Invoke g c = let m = c.in_ok-run_call-in-Invoke.ensures c.args.state.now in search rules
+pub returns-in_default : goal.returns-in_default
+returns-in_default g c =
+    let v = g.P.Version.acts c.args.version.now in
+    let a = place_of c.args.machine.now in
+    into_jump v a (standing c.in_ok-ran.ran.code.now c.run_plain.new.operands c.run_plain.new.locals a.frames) c.args.state.now c.run_plain.new.state c.in_ok-ran.ran.jump c.in_default.not-None (c.in_ok-ran.ensures a.frames)

@@ -1,6 +1,6 @@
 use Rattle.std.proofs.Common.{◌≡◌, codes, sym}
 use Rattle.std.proofs.lemmas.Slice.Eq.{bytes_eq-Decides}
-use Rattle.lower_tool.proofs.WordLemmas.{two_items, three_items}
+use Rattle.lower_tool.proofs.WordLemmas.{two_items, three_items, four_items}
 use Rattle.lower_tool.proofs.tool.command.parse.Goals as goal
 
 -- the first word is `lower`, and there are three
@@ -23,3 +23,11 @@ returns-in-len2-2 c =
     let all = two_items c.args.words.now c.word-item-then-words-lt3.result c.input-item-then-words-lt3.result c.in-len2.len_at_least c.in-len2.len_below c.word-item-then-words-lt3.is c.input-item-then-words-lt3.is in
     let word : c.as_str-then-words-lt3.result.now ≡ codes "check3" = (bytes_eq-Decides _ _).0 (sym c.if-eq-2.ensures) in
     cc
+
+-- the first word is `run1`, and there are four, the last of which is a number
+pub returns-in_ok-turns_of-in-len4 : goal.returns-in_ok-turns_of-in-len4
+returns-in_ok-turns_of-in-len4 c =
+    let all = four_items c.args.words.now c.word-item-then-words-lt5.result c.input-item-then-words-lt5.result c.script-item.result c.turns-item.result c.in-len4.len_at_least c.in-len4.len_below c.word-item-then-words-lt5.is c.input-item-then-words-lt5.is c.script-item.is c.turns-item.is in
+    let word : c.as_str-then-words-lt5.result.now ≡ codes "run1" = (bytes_eq-Decides _ _).0 (sym c.if-eq-4.ensures) in
+    let number = c.in_ok-turns_of-in-len4.ensures.1 in
+    (c.in_ok-turns_of-in-len4.ensures.0, cc)

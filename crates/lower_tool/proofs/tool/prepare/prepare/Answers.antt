@@ -1,24 +1,20 @@
-use Rattle.std.proofs.Common.{ℕ, List, subst}
-use Rattle.std.specs.Prelude.{IfSome}
-use Rattle.lower_tool.specs.Statuses.{TakesWithinLimit}
+use Rattle.std.proofs.lemmas.Result.{err_from_is_err_and}
 use Rattle.lower_tool.specs.Commands.{command_of}
-use Rattle.lower_tool.specs.Words.{input_of}
-use Rattle.lower_tool.proofs.Delivering.{made_of_file}
+use Rattle.lower_tool.proofs.Delivering.{made_of_inputs}
+use Rattle.lower_tool.proofs.Stopping.{inputs_stop}
 use Rattle.lower_tool.proofs.tool.prepare.prepare.Goals as goal
 
--- the file that was read is the command's
-pub returns-in_err-make-clause-taken : goal.returns-in_err-make-clause-taken
-returns-in_err-make-clause-taken g c = λ reading.
-    subst (λ (name : List ℕ). IfSome (g.F.Files.holds c.args.files.now) (λ held. TakesWithinLimit (held name) (g.F.Files.left c.read_file.new.files)))
-    c.input.ensures (c.in_ok-bytes.ensures.taken reading)
-
-pub returns-clause-taken : goal.returns-clause-taken
-returns-clause-taken g c = λ reading.
-    subst (λ (name : List ℕ). IfSome (g.F.Files.holds c.args.files.now) (λ held. TakesWithinLimit (held name) (g.F.Files.left c.read_file.new.files)))
-    c.input.ensures (c.in_ok-bytes.ensures.taken reading)
-
--- what is made of the bytes is made of the file
+-- what is made of what was read is made of the files
 pub returns-clause-makes : goal.returns-clause-makes
 returns-clause-makes g c =
-    made_of_file (g.F.Files.holds c.args.files.now) c.input.result.now (input_of (command_of c.args.command)) c.in_ok-bytes.bytes c.as_slice.result.now (command_of c.args.command) c.in_ok-make.field-0
-    c.input.ensures c.as_slice.ensures c.in_ok-bytes.ensures.whole c.in_ok-make.ensures.makes
+    made_of_inputs (g.F.Files.holds c.args.files.now) (command_of c.args.command) c.in_ok-inputs.inputs.bytes c.in_ok-inputs.inputs.text c.in_ok-make.field-0
+    c.in_ok-inputs.ensures.whole c.in_ok-make.ensures.makes
+
+-- and so is what refuses it
+pub returns-in_err-make-clause-refused : goal.returns-in_err-make-clause-refused
+returns-in_err-make-clause-refused g c =
+    let fault = c.in_err-make.field-0.0 in
+    let p = err_from_is_err_and c.from_residual-in_err-make.result c.from_residual-in_err-make.ensures.1 in
+    rw (p.1, p.2)
+    (inputs_stop (command_of c.args.command) (g.F.Files.holds c.args.files.now) c.in_ok-inputs.inputs.bytes c.in_ok-inputs.inputs.text fault
+    c.in_ok-inputs.ensures.whole c.in_err-make.ensures.refused)

@@ -2,7 +2,7 @@ use Rattle.std.proofs.Common.{map}
 use Rattle.run_core1.specs.Views.{mark_of}
 use Rattle.run_core1.proofs.WholeRun.{is_trace}
 use Rattle.run_core1.proofs.TypedConstants.{typed_constants}
-use Rattle.run_core1.proofs.whole_run.run.Goals as goal
+use Rattle.run_core1.proofs.whole_run.run_marks.Goals as goal
 
 pub new-requires : goal.new-requires
 new-requires c = typed_constants c.args.source.now c.requires
