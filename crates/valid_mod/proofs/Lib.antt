@@ -7,3 +7,5 @@ pub mod Unique
 pub mod Keeping
 pub mod Cutting
 pub mod Standing
+pub mod ReachableCode
+pub mod ReachableRuns

@@ -4,3 +4,4 @@ pub mod Verdict
 pub mod Standing
 pub mod Bodies
 pub mod Hidden
+pub mod Meaning

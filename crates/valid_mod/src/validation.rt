@@ -5,6 +5,8 @@ ghost use Rattle.wasm_ast.specs.Counts.{Agrees};
 ghost use Rattle.valid_mod.specs.declared.invalid.Invalid.{Invalid};
 ghost use Rattle.valid_mod.specs.Bodies.{TellsOfBodies};
 ghost use Rattle.valid_mod.specs.Standing.{StandsFor};
+ghost use Rattle.valid_mod.specs.Meaning.{SameRuns};
+ghost use Rattle.typed_trees.specs.Typed.{module_of};
 ghost use Rattle.valid_mod.specs.Verdict.{IsVerdict, Settles, Tells, verdict_of};
 
 use crate::bare::parts_of;
@@ -35,6 +37,8 @@ pub fn validate(alloc: Global, m: &Module) -> Result<TypedModule, Invalid>
     ensures tells { Tells m.now (verdict_of result) }
     // The typed module is that module.
     ensures stands { IfOk result (StandsFor m.now) }
+    // It has the runs of that module: what it lacks is never run.
+    ensures meaning { IfOk result (λ typed. SameRuns m.now (module_of typed)) }
     // No other answer is right, want of memory aside.
     ensures only { (other : Result (Unit {0}) Invalid) → Settles m.now other → IsVerdict (verdict_of result) other }
 {

@@ -2,6 +2,7 @@ use Rattle.std.proofs.Common.{Ok, rules, sym, subst}
 use Rattle.valid_mod.specs.Standing.{StandsFor}
 use Rattle.valid_mod.specs.Verdict.{Tells, verdict_of}
 use Rattle.valid_mod.proofs.Standing.{whole_tree, stands}
+use Rattle.valid_mod.proofs.ReachableRuns.{same_runs}
 use Rattle.valid_mod.proofs.Unique.{only_answer}
 use Rattle.valid_mod.proofs.validation.validate.Goals as goal
 
@@ -22,3 +23,8 @@ returns-clause-stands c =
 
 pub returns-clause-only : goal.returns-clause-only
 returns-clause-only c = λ other h. only_answer c.args.m.now (Ok tt) other c.in_ok-fns.ensures.typed h
+
+pub returns-clause-meaning : goal.returns-clause-meaning
+returns-clause-meaning c =
+    let m = c.args.m.now in
+    same_runs m _ (subst (StandsFor m) (sym c.build.ensures) (stands m c.in_ok-fns.fns c.requires c.in_ok-fns.ensures.kept c.in_ok-parts.parts c.in_ok-parts.ensures))
