@@ -1,0 +1,11 @@
+pub mod Keys
+pub mod Places
+pub mod Catching
+pub mod Steady
+pub mod Called
+pub mod Ending
+pub mod WholeRun
+pub mod Stepping
+pub mod Stored
+pub mod Instantiating
+pub mod VectorStores

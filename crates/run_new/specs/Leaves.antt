@@ -1,0 +1,110 @@
+-- Plain instructions as calls.
+use Rattle.std.specs.Prelude.{ℕ, Bool, if◌then◌else◌, List}
+use Rattle.wasm_ast.specs.declared.module.code.Instr.{Instr, out-Instr}
+use Rattle.wasm_ast.specs.declared.module.code.Instr.TheOpen.{Instr-F}
+use Rattle.wasm_ast.specs.declared.module.op.Op.{Op}
+use Rattle.wasm_ast.specs.declared.module.op.Op.TheVariants as ops
+use Rattle.wasm_ast.specs.declared.module.parts.Module.{Module}
+use Rattle.evaluation_kit.specs.declared.jump.Jump.TheVariants.{Trap}
+use Rattle.evaluation_kit.specs.Configurations.{Plain, PlainRes}
+use Rattle.machine_kit.specs.Acts.{act_of}
+use Rattle.run_kit.specs.declared.change.Change.{Change}
+use Rattle.run_kit.specs.declared.change.Change.TheVariants.{Take, Exit}
+use Rattle.run_kit.specs.Changes as changes
+use Rattle.meaning_new.specs.declared.val.Val.{Val}
+use Rattle.meaning_new.specs.Store.{Store, State, missing, with_store}
+use Rattle.meaning_new.specs.Forms.{layer}
+
+-- what an instruction does, where it is plain; no other one does anything by itself
+abbrev pub act : Module → Instr → Plain Val State → PlainRes Val State
+act m i = act_of (layer m Instr (out-Instr i))
+
+-- an instruction that is given these operands does this change, and makes the second state of the first
+abbrev pub Does : (Plain Val State → PlainRes Val State) → List Val → State → Change Val → State → Type 0
+Does = changes.Does missing
+
+-- the same, where it changes the store alone
+abbrev pub DoesInStore : (Plain Val State → PlainRes Val State) → List Val → Store → Change Val → Store → Type 0
+DoesInStore act given old change new = (s : State) → Does act given (with_store old s) change (with_store new s)
+
+-- so many operands are taken where something fits, and else the instruction traps
+abbrev pub fits_or_trap : Bool → ℕ → Change Val
+fits_or_trap fits n = if fits then Take n else Exit 0 Trap
+
+-- instructions on locals
+abbrev pub IsOnLocals : Instr-F Instr → Type 0
+IsOnLocals (Instr-F.LocalGet x) = Unit {0}
+IsOnLocals (Instr-F.LocalSet x) = Unit {0}
+IsOnLocals (Instr-F.LocalTee x) = Unit {0}
+IsOnLocals _ = ⊥
+
+-- drop, select, nop, and what is not plain
+abbrev pub IsParametric : Instr-F Instr → Type 0
+IsParametric Instr-F.Drop = Unit {0}
+IsParametric Instr-F.Select = Unit {0}
+IsParametric (Instr-F.SelectTyped ts) = Unit {0}
+IsParametric Instr-F.Nop = Unit {0}
+IsParametric (Instr-F.Block t code) = Unit {0}
+IsParametric (Instr-F.Loop t code) = Unit {0}
+IsParametric (Instr-F.If t a b) = Unit {0}
+IsParametric (Instr-F.Call x) = Unit {0}
+IsParametric (Instr-F.CallIndirect t x) = Unit {0}
+IsParametric (Instr-F.TryTable t clauses code) = Unit {0}
+IsParametric _ = ⊥
+
+-- jumps
+abbrev pub IsJump : Instr-F Instr → Type 0
+IsJump Instr-F.Unreachable = Unit {0}
+IsJump (Instr-F.Br l) = Unit {0}
+IsJump (Instr-F.BrIf l) = Unit {0}
+IsJump (Instr-F.BrTable labels last) = Unit {0}
+IsJump Instr-F.Return = Unit {0}
+IsJump (Instr-F.ReturnCall x) = Unit {0}
+IsJump (Instr-F.Float code immediates) = Unit {0}
+IsJump _ = ⊥
+
+-- accesses to globals and memories
+abbrev pub IsAccess : Instr-F Instr → Type 0
+IsAccess (Instr-F.GlobalGet x) = Unit {0}
+IsAccess (Instr-F.GlobalSet x) = Unit {0}
+IsAccess (Instr-F.Load op at) = Unit {0}
+IsAccess (Instr-F.Store op at) = Unit {0}
+IsAccess (Instr-F.LoadVector op at) = Unit {0}
+IsAccess (Instr-F.StoreVector at) = Unit {0}
+IsAccess (Instr-F.LoadLane shape at lane) = Unit {0}
+IsAccess (Instr-F.StoreLane shape at lane) = Unit {0}
+IsAccess _ = ⊥
+
+-- instructions on the size of memories and on ranges of them
+abbrev pub IsOnMemories : Instr-F Instr → Type 0
+IsOnMemories (Instr-F.MemorySize x) = Unit {0}
+IsOnMemories (Instr-F.MemoryFill x) = Unit {0}
+IsOnMemories (Instr-F.MemoryCopy x y) = Unit {0}
+IsOnMemories (Instr-F.MemoryInit x y) = Unit {0}
+IsOnMemories (Instr-F.DataDrop x) = Unit {0}
+IsOnMemories _ = ⊥
+
+-- instructions on tables
+abbrev pub IsOnTables : Instr-F Instr → Type 0
+IsOnTables (Instr-F.TableGet x) = Unit {0}
+IsOnTables (Instr-F.TableSet x) = Unit {0}
+IsOnTables (Instr-F.TableSize x) = Unit {0}
+IsOnTables (Instr-F.TableFill x) = Unit {0}
+IsOnTables (Instr-F.TableCopy x y) = Unit {0}
+IsOnTables (Instr-F.TableInit x y) = Unit {0}
+IsOnTables (Instr-F.ElemDrop x) = Unit {0}
+IsOnTables _ = ⊥
+
+-- operators on vectors
+abbrev pub IsOnVectors : Op → Type 0
+IsOnVectors (ops.V128Const v) = Unit {0}
+IsOnVectors ops.Bitselect = Unit {0}
+IsOnVectors (ops.Shuffle places) = Unit {0}
+IsOnVectors (ops.Splat shape) = Unit {0}
+IsOnVectors (ops.Extract op lane) = Unit {0}
+IsOnVectors (ops.Replace shape lane) = Unit {0}
+IsOnVectors (ops.Lanes1 op) = Unit {0}
+IsOnVectors (ops.Lanes2 op) = Unit {0}
+IsOnVectors (ops.ShiftLanes op) = Unit {0}
+IsOnVectors (ops.TestLanes op) = Unit {0}
+IsOnVectors _ = ⊥

@@ -1,0 +1,9 @@
+pub mod States
+pub mod Nodes
+pub mod NodeLaws
+pub mod Leaves
+pub mod Callees
+pub mod Answers
+pub mod Items
+pub mod Tasks
+pub mod Instances

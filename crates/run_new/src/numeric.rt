@@ -1,0 +1,96 @@
+// Instructions on operands alone (the standard's "Numeric Instructions" and "Reference Instructions").
+ghost use Rattle.std.specs.Prelude.{◌≡◌, ◌<◌, ◌^◌, List, [], ◌∷◌};
+ghost use Rattle.num_core.specs.Integers.{bits, wrap, width_from, width_to};
+ghost use Rattle.evaluation_kit.specs.Leaves.{on_operands};
+ghost use Rattle.meaning_new.specs.Store.{State, number};
+ghost use Rattle.meaning_new.specs.Numeric.{pure};
+ghost use Rattle.run_new.specs.Leaves.{Does};
+
+use crate::values::{int, is_null, number, truth};
+use crate::vectors::vector_operator;
+use evaluation_kit::Jump;
+use meaning_new::Val;
+use num_core::operations::{binary, compare, convert, eqz, unary};
+use num_core::operators::{Bin, Conv, Un, Width};
+use run_kit::Change;
+use wasm_ast::module::Op;
+
+/// The integer of a width that a value is: its lowest bits.
+pub(crate) fn integer(width: Width, value: Val) -> u64
+    ensures value { result ≡ wrap (bits width) (number value) }
+    ensures below { result < 2 ^ bits width }
+{
+    match width {
+        Width::W32 => (number(value) % (1 << 32)) as u64,
+        Width::W64 => (number(value) % (1 << 64)) as u64,
+    }
+}
+
+/// What a binary operator does (t.binop).
+fn binary_operator(width: Width, op: Bin, top: Val, next: Val) -> Change<Val>
+    ensures { (s : State) → Does (on_operands (pure (Op.Binary width op))) (top ∷ next ∷ []) s result s }
+{
+    match binary(width, op, integer(width, next), integer(width, top)) {
+        Some(i) => Change::Put(2, int(width, i)),
+        None => Change::Exit(0, Jump::Trap),
+    }
+}
+
+/// What a unary operator does (t.unop).
+fn unary_operator(width: Width, op: Un, top: Val) -> Change<Val>
+    ensures { (s : State) → Does (on_operands (pure (Op.Unary width op))) (top ∷ []) s result s }
+{
+    Change::Put(1, int(width, unary(width, op, integer(width, top))))
+}
+
+/// The widths of the operand and of the result of a conversion.
+fn widths(op: Conv) -> (Width, Width)
+    ensures from { result.0 ≡ width_from op }
+    ensures to { result.1 ≡ width_to op }
+{
+    match op {
+        Conv::Wrap => (Width::W64, Width::W32),
+        Conv::Ext32S | Conv::Ext32U => (Width::W32, Width::W64),
+        Conv::S8of32 | Conv::S16of32 => (Width::W32, Width::W32),
+        Conv::S8of64 | Conv::S16of64 | Conv::S32of64 => (Width::W64, Width::W64),
+    }
+}
+
+/// What a conversion does (t2.cvtop).
+fn conversion(op: Conv, top: Val) -> Change<Val>
+    ensures { (s : State) → Does (on_operands (pure (Op.Convert op))) (top ∷ []) s result s }
+{
+    let (from, to) = widths(op);
+    Change::Put(1, int(to, convert(op, integer(from, top))))
+}
+
+/// What an instruction on operands alone does to the topmost ones.
+pub(crate) fn pure(op: Op, top: Val, next: Val, third: Val) -> Change<Val>
+    ensures { (s : State) → Does (on_operands (pure op)) (top ∷ next ∷ third ∷ []) s result s }
+{
+    match op {
+        Op::I32Const(i) => Change::Put(0, Val::I32(i)),
+        Op::I64Const(i) => Change::Put(0, Val::I64(i)),
+        Op::Eqz(width) => Change::Put(1, truth(eqz(width, integer(width, top)))),
+        Op::Compare(width, op) => {
+            let holds = compare(width, op, integer(width, next), integer(width, top));
+            Change::Put(2, truth(holds))
+        }
+        Op::Unary(width, op) => unary_operator(width, op, top),
+        Op::Binary(width, op) => binary_operator(width, op, top, next),
+        Op::Convert(op) => conversion(op, top),
+        Op::RefNull(ty) => Change::Put(0, Val::Null(ty)),
+        Op::RefIsNull => Change::Put(1, truth(is_null(top))),
+        Op::RefFunc(func) => Change::Put(0, Val::Func(func)),
+        Op::V128Const(_)
+        | Op::Shuffle(_)
+        | Op::Splat(_)
+        | Op::Extract(_, _)
+        | Op::Replace(_, _)
+        | Op::Bitselect
+        | Op::Lanes1(_)
+        | Op::Lanes2(_)
+        | Op::ShiftLanes(_)
+        | Op::TestLanes(_) => vector_operator(op, top, next, third),
+    }
+}
