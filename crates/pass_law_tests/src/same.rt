@@ -1,0 +1,38 @@
+// A stage that leaves a module as it is.
+
+ghost use Rattle.std.specs.Prelude.{◌≡◌, ◌≤◌, true, IfOk};
+ghost use Rattle.typed_trees.specs.Typed.{module_of};
+ghost use Rattle.pass_law.specs.Law.{Law};
+ghost use Rattle.pass_law.specs.Needs.{needs_of};
+ghost use Rattle.pass_law.specs.Stages.{Stage};
+ghost use Rattle.pass_law_tests.specs.Stages.{same_plan, same_lawful};
+
+use num_core::lists::TryCopy;
+use pass_law::{Pass, Settings};
+use std::alloc::{AllocError, Global};
+use typed_trees::TypedModule;
+
+/// The module is copied.
+#[derive(Clone, Copy)]
+pub struct Same;
+
+impl Pass for Same {
+    ghost plan = { same_plan };
+
+    fn lower(
+        &self,
+        alloc: Global,
+        m: &TypedModule,
+        settings: &Settings,
+    ) -> Result<TypedModule, AllocError>
+        requires takes { same_plan.takes (needs_of (module_of m.now)) ≡ true }
+        requires stage { Stage (module_of m.now) }
+        requires least { 1 ≤ settings.now.captures }
+        requires most { settings.now.captures ≤ 16384 }
+        ensures law { IfOk result (λ o. Law same_plan (module_of m.now) (module_of o) settings.now.captures) }
+    {
+        m.copy(alloc)
+    }
+
+    ghost lawful = { same_lawful };
+}
