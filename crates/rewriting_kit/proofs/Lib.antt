@@ -1,0 +1,5 @@
+pub mod Joining
+pub mod Typing
+pub mod Folding
+pub mod Staying
+pub mod Plain
