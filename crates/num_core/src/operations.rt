@@ -12,6 +12,7 @@ use extensions::{extend8, extend16, extend32, narrow8, narrow16};
 
 /// The value of a binary operator on integers of this width, or `None` where the instruction traps: a quotient or a
 /// remainder by 0, and the signed quotient that is no signed number (the standard's "Integer Operations").
+#[inline(always)]
 pub fn binary(width: Width, op: Bin, a: u64, b: u64) -> Option<u64>
     requires left { a < 2 ^ bits width }
     requires right { b < 2 ^ bits width }
@@ -24,6 +25,7 @@ pub fn binary(width: Width, op: Bin, a: u64, b: u64) -> Option<u64>
 }
 
 /// The value of a unary operator on an integer of this width (the standard's "Integer Operations").
+#[inline(always)]
 pub fn unary(width: Width, op: Un, a: u64) -> u64
     requires { a < 2 ^ bits width }
     ensures { result ≡ unary width op a }
@@ -35,6 +37,7 @@ pub fn unary(width: Width, op: Un, a: u64) -> u64
 }
 
 /// Whether an integer of this width is 0 (the standard's "Integer Operations", ieqz).
+#[inline(always)]
 pub fn eqz(width: Width, a: u64) -> bool
     requires { a < 2 ^ bits width }
     ensures { result ≡ is_zero a }
@@ -43,6 +46,7 @@ pub fn eqz(width: Width, a: u64) -> bool
 }
 
 /// Whether a comparison of two integers of this width holds (the standard's "Integer Operations").
+#[inline(always)]
 pub fn compare(width: Width, op: Cmp, a: u64, b: u64) -> bool
     requires left { a < 2 ^ bits width }
     requires right { b < 2 ^ bits width }
@@ -55,6 +59,7 @@ pub fn compare(width: Width, op: Cmp, a: u64, b: u64) -> bool
 }
 
 /// The value of a conversion of an integer (the standard's "Conversions").
+#[inline(always)]
 pub fn convert(op: Conv, a: u64) -> u64
     requires { a < 2 ^ bits (width_from op) }
     ensures { result ≡ convert op a }

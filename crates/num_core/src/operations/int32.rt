@@ -5,6 +5,7 @@ ghost use Rattle.num_core.specs.Integers.{binary, unary, compares, div_signed, r
 use crate::operators::{Bin, Cmp, Un, Width};
 
 /// The value of a binary operator, or `None` where the instruction traps.
+#[inline(always)]
 pub(super) fn binary(op: Bin, a: u32, b: u32) -> Option<u32>
     ensures { result ≡ binary Width.W32 op a b }
 {
@@ -28,6 +29,7 @@ pub(super) fn binary(op: Bin, a: u32, b: u32) -> Option<u32>
 }
 
 /// The quotient of two signed numbers, rounded toward zero.
+#[inline(always)]
 fn divide_signed(a: u32, b: u32) -> Option<u32>
     ensures { result ≡ div_signed 32 a b }
 {
@@ -36,6 +38,7 @@ fn divide_signed(a: u32, b: u32) -> Option<u32>
 }
 
 /// The remainder of two signed numbers, which is 0 for the least by -1.
+#[inline(always)]
 fn remainder_signed(a: u32, b: u32) -> Option<u32>
     ensures { result ≡ rem_signed 32 a b }
 {
@@ -47,6 +50,7 @@ fn remainder_signed(a: u32, b: u32) -> Option<u32>
 }
 
 /// A shift to the right that copies the sign.
+#[inline(always)]
 fn shift_signed(a: u32, b: u32) -> u32
     ensures { result ≡ shift_right_signed 32 a b }
 {
@@ -54,6 +58,7 @@ fn shift_signed(a: u32, b: u32) -> u32
 }
 
 /// The value of a unary operator.
+#[inline(always)]
 pub(super) fn unary(op: Un, a: u32) -> u64
     ensures { result ≡ unary Width.W32 op a }
 {
@@ -65,6 +70,7 @@ pub(super) fn unary(op: Un, a: u32) -> u64
 }
 
 /// Whether a comparison holds.
+#[inline(always)]
 pub(super) fn compare(op: Cmp, a: u32, b: u32) -> bool
     ensures { result ≡ compares Width.W32 op a b }
 {

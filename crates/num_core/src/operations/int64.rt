@@ -5,6 +5,7 @@ ghost use Rattle.num_core.specs.Integers.{binary, unary, compares, div_signed, r
 use crate::operators::{Bin, Cmp, Un, Width};
 
 /// The value of a binary operator, or `None` where the instruction traps.
+#[inline(always)]
 pub(super) fn binary(op: Bin, a: u64, b: u64) -> Option<u64>
     ensures { result ≡ binary Width.W64 op a b }
 {
@@ -56,6 +57,7 @@ fn shift_signed(a: u64, b: u64) -> u64
 }
 
 /// The value of a unary operator.
+#[inline(always)]
 pub(super) fn unary(op: Un, a: u64) -> u64
     ensures { result ≡ unary Width.W64 op a }
 {
@@ -67,6 +69,7 @@ pub(super) fn unary(op: Un, a: u64) -> u64
 }
 
 /// Whether a comparison holds.
+#[inline(always)]
 pub(super) fn compare(op: Cmp, a: u64, b: u64) -> bool
     ensures { result ≡ compares Width.W64 op a b }
 {
