@@ -73,7 +73,7 @@ pub depth_grows : (m : Module) (s : Script) (n k : ℕ) → n ≤ k → depth m 
 unfolding depth
 depth_grows m s n k le = (ends_lead any_sizes any_room m s n k le).deepest
 
--- a run without bounds is never full
+-- a run in which there is room for each capture is never full, and so is one without bounds
 run_roomy : (m : Module) (s : Script) (n : ℕ) (w : World State) → Roomy w.state → Leaves roomy status_place (out m s n w)
 unfolding keeping
 run_roomy m s n w h =
@@ -84,19 +84,25 @@ place_roomy : (o : Out (World State) (Status (World State))) → Leaves roomy st
 place_roomy (Done u r) h = h.always
 place_roomy (Halt w) h = h.always
 
-begins_roomy : (m : Module) (s : Script) → Roomy (new_state any_sizes any_room false m s)
-begins_roomy m s = record { room = λ k. refl; clean = tt }
+begins_roomy : (permits : List ℕ → Bool) (m : Module) (s : Script) → Roomy (new_state permits any_room false m s)
+begins_roomy permits m s = record { room = λ k. refl; clean = tt }
 
-run_clean : (m : Module) (s : Script) (n : ℕ) → Clean (place_of status_at (out m s n (begin any_sizes any_room m s))).state
-run_clean m s n =
-    let w = begin any_sizes any_room m s in
-    (place_roomy (out m s n w) (run_roomy m s n w (begins_roomy m s))).clean
+run_clean : (permits : List ℕ → Bool) (m : Module) (s : Script) (n : ℕ) → Clean (place_of status_at (out m s n (begin permits any_room m s))).state
+run_clean permits m s n =
+    let w = begin permits any_room m s in
+    (place_roomy (out m s n w) (run_roomy m s n w (begins_roomy permits m s))).clean
+
+pub roomy_not_full : (permits : List ℕ → Bool) (m : Module) (s : Script) (n : ℕ) → Contains (bounded_trace permits any_room m s n) (Shows events.Full) → ⊥
+unfolding bounded_trace
+roomy_not_full permits m s n h =
+    let w = begin permits any_room m s in
+    All-from_recursion NotFull (place_of status_at (out m s n w)).state.trace (run_clean permits m s n) h.0 (Shows events.Full) h.1 h.2
 
 pub trace_not_full : (m : Module) (s : Script) (n : ℕ) → Contains (trace m s n) (Shows events.Full) → ⊥
 unfolding trace
 trace_not_full m s n h =
     let w = begin any_sizes any_room m s in
-    All-from_recursion NotFull (place_of status_at (out m s n w)).state.trace (run_clean m s n) h.0 (Shows events.Full) h.1 h.2
+    All-from_recursion NotFull (place_of status_at (out m s n w)).state.trace (run_clean any_sizes m s n) h.0 (Shows events.Full) h.1 h.2
 
 -- captures are counted
 run_counted : (N : ℕ) (m : Module) (s : Script) (n : ℕ) (w : World State) → Counted N w.state → Leaves (counted N) status_place (out m s n w)
@@ -184,7 +190,7 @@ module _ (permits : List ℕ → Bool) (room : ℕ → Bool) (m : Module) (s : S
   unfolding free_out
   free_clean =
       let own = regrow (answers (seen (place_of status_at (out m s n (begin permits room m s))).state.trace) ++ more) s in
-      run_clean m own n
+      run_clean any_sizes m own n
 
   pub bounded_run : ((trace m (regrow (answers (seen (bounded_trace permits room m s n)) ++ more) s) n ≡ bounded_trace permits room m s n) × (depth m (regrow (answers (seen (bounded_trace permits room m s n)) ++ more) s) n ≡ bounded_depth permits room m s n)) ⊎ Stopped (bounded_trace permits room m s n) (trace m (regrow (answers (seen (bounded_trace permits room m s n)) ++ more) s) n)
   unfolding trace depth bounded_trace bounded_depth bounded_out free_out
@@ -202,7 +208,7 @@ module _ (m : Module) (s : Script) (n : ℕ) (more : List Bool) where
     where
       by_case : Replayed answering status_place more (bounded_out any_sizes any_room m s n more) (free_out any_sizes any_room m s n more) → place_of status_at (free_out any_sizes any_room m s n more) ≡ free_world answering more (place_of status_at (bounded_out any_sizes any_room m s n more))
       by_case (inl e) = same_place any_sizes any_room m s n more e
-      by_case (inr p) = absurd (never_past (out m s n (begin any_sizes any_room m s)) (free_out any_sizes any_room m s n more) (run_roomy m s n (begin any_sizes any_room m s) (begins_roomy m s)) p)
+      by_case (inr p) = absurd (never_past (out m s n (begin any_sizes any_room m s)) (free_out any_sizes any_room m s n more) (run_roomy m s n (begin any_sizes any_room m s) (begins_roomy any_sizes m s)) p)
 
   pub trace_replays : trace m (regrow (answers (seen (trace m s n)) ++ more) s) n ≡ trace m s n
   unfolding trace bounded_out free_out
