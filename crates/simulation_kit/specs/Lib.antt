@@ -1,0 +1,13 @@
+pub mod Runs
+pub mod Labels
+pub mod Matches
+pub mod Staying
+pub mod Rewriting
+pub mod Hosting
+pub mod Keeping
+pub mod Likenesses
+pub mod Mirrors
+pub mod Doing
+pub mod Fitting
+pub mod Selves
+pub mod Flattenings
