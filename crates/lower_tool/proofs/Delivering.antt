@@ -1,5 +1,5 @@
 -- What a command has made, handed out.
-use Rattle.std.proofs.Common.{◌≡◌, ℕ, List, [], ◌∷◌, Bool, true, false, ap, sym, ◌∙◌, subst, get_or}
+use Rattle.std.proofs.Common.{◌≡◌, ℕ, List, [], ◌∷◌, Bool, true, false, refl, ap, sym, ◌∙◌, subst, get_or}
 use Rattle.std.proofs.lemmas.Fmt.{decimal_injective}
 use Rattle.std.specs.Prelude.{Option, codes, bytes_eq, ⊤}
 use Rattle.host_kit.specs.Trace.{events}
@@ -12,7 +12,7 @@ use Rattle.lower_tool.specs.Runs.{Runs, run_text}
 use Rattle.lower_tool.specs.Statuses.{Lowered, CutShort, LeavesFront, line}
 use Rattle.wasm_frame.specs.declared.sections.Version.{Version}
 use Rattle.wasm_frame.specs.declared.sections.Version.TheVariants.{One, Three}
-use Rattle.lower_tool.specs.Words.{Command, lower, check, run, Say, IsPrinting}
+use Rattle.lower_tool.specs.Words.{Command, lower, check, run, Say, run_word, IsPrinting}
 use Rattle.lower_tool.specs.declared.tool.product.Product.{Product}
 use Rattle.lower_tool.specs.declared.tool.product.Product.TheVariants.{File, Fine, Run}
 use Rattle.lower_tool.proofs.Inputs.{makes_front, where_inputs, apart_inputs}
@@ -31,28 +31,33 @@ both h k = sym h ∙ k
 apart : true ≡ false → ⊥
 apart h = absurd cc
 
+one_run_word : (v w : Version) → run_word v ≡ run_word w → v ≡ w
+one_run_word One One h = refl
+one_run_word One Three h = absurd (apart (ap (bytes_eq (codes "run1")) h))
+one_run_word Three One h = absurd (apart (ap (bytes_eq (codes "run3")) h))
+one_run_word Three Three h = refl
+
 pub one_command : (words : List (List ℕ)) (c d : Command) → Say words c → Say words d → c ≡ d
 one_command words (lower input output) (lower other result) h k = let e = both h k in cc
 one_command words (lower input output) (check One other) h k = let e = both h k in absurd cc
 one_command words (lower input output) (check Three other) h k = let e = both h k in absurd cc
-one_command words (lower input output) (run One other script turns) h k = let e = both h k.1 in absurd cc
+one_command words (lower input output) (run v other script turns) h k = let e = both h k.1 in absurd cc
 one_command words (check One input) (lower other result) h k = let e = both h k in absurd cc
 one_command words (check Three input) (lower other result) h k = let e = both h k in absurd cc
 one_command words (check One input) (check One other) h k = let e = both h k in cc
 one_command words (check One input) (check Three other) h k = absurd (apart (ap is_check1 (both h k)))
 one_command words (check Three input) (check One other) h k = absurd (apart (sym (ap is_check1 (both h k))))
 one_command words (check Three input) (check Three other) h k = let e = both h k in cc
-one_command words (check One input) (run One other script turns) h k = let e = both h k.1 in absurd cc
-one_command words (check Three input) (run One other script turns) h k = let e = both h k.1 in absurd cc
-one_command words (run One input script turns) (lower other result) h k = let e = both h.1 k in absurd cc
-one_command words (run One input script turns) (check One other) h k = let e = both h.1 k in absurd cc
-one_command words (run One input script turns) (check Three other) h k = let e = both h.1 k in absurd cc
-one_command words (run One input script turns) (run One other second number) h k =
+one_command words (check One input) (run v other script turns) h k = let e = both h k.1 in absurd cc
+one_command words (check Three input) (run v other script turns) h k = let e = both h k.1 in absurd cc
+one_command words (run v input script turns) (lower other result) h k = let e = both h.1 k in absurd cc
+one_command words (run v input script turns) (check One other) h k = let e = both h.1 k in absurd cc
+one_command words (run v input script turns) (check Three other) h k = let e = both h.1 k in absurd cc
+one_command words (run v input script turns) (run w other second number) h k =
     let e = both h.1 k.1 in
+    let version : v ≡ w = one_run_word v w (ap (λ (w : List (List ℕ)). get_or w 0 []) e) in
     let same : turns ≡ number = decimal_injective turns number h.0 k.0 (ap (λ (w : List (List ℕ)). get_or w 3 []) e) in
     cc
-one_command words c (run Three other script turns) h k = absurd k
-one_command words (run Three input script turns) d h k = absurd h
 
 -- the same of words that are the same
 pub same_command : (slice words : List (List ℕ)) (c d : Command) → slice ≡ words → Say slice c → Say words d → c ≡ d

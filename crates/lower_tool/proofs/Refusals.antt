@@ -188,9 +188,16 @@ module _ (t : List ℕ) where
   pub refused_run1 : {X : Type 0} (b : List ℕ) (m : Module1) (r : Result X NotFine) → length b ≤ file_limit → Reads one b (Ok m) → IfErr r (λ e. IfNotFine e (λ refusal. Refuses1 refusal m)) → IfErr r (λ e. IfNotFine e (λ refusal. RefusesToRun One refusal b t))
   refused_run1 b m r within reads h = judging.refused_of_module (Reads one) one_answer1 Refuses1 (λ m no. no) (λ f m no. no) b m r within reads h
 
+  pub refused_run3 : {X : Type 0} (b : List ℕ) (m : Module) (r : Result X NotFine) → length b ≤ file_limit → Reads three b (Ok m) → IfErr r (λ e. IfNotFine e (λ refusal. Refuses3 refusal m)) → IfErr r (λ e. IfNotFine e (λ refusal. RefusesToRun Three refusal b t))
+  refused_run3 b m r within reads h = judging.refused_of_module (Reads three) one_answer3 Refuses3 (λ m no. no) (λ f m no. no) b m r within reads h
+
 pub shown_run1 : {X : Type 0} (b t : List ℕ) (m : Module1) (r : Result X NotFine) (Q : X → (ℕ → List Mark) → Type 0) → length b ≤ file_limit → Reads one b (Ok m) → IfOk r (λ x. RunsUnder IsValid1 ScriptFits1 trace1 t (Q x) m) → IfOk r (λ x. Runs One b t (Q x))
 shown_run1 b t m (Ok x) Q within reads h = (within, (m, reads, h))
 shown_run1 b t m (Err e) Q within reads h = tt
+
+pub shown_run3 : {X : Type 0} (b t : List ℕ) (m : Module) (r : Result X NotFine) (Q : X → (ℕ → List Mark) → Type 0) → length b ≤ file_limit → Reads three b (Ok m) → IfOk r (λ x. RunsUnder IsValid3 ScriptFits trace t (Q x) m) → IfOk r (λ x. Runs Three b t (Q x))
+shown_run3 b t m (Ok x) Q within reads h = (within, (m, reads, h))
+shown_run3 b t m (Err e) Q within reads h = tt
 
 -- what holds of a run, from what else holds of it; and what holds together
 pub runs_map : (v : Version) (b t : List ℕ) (P Q : (ℕ → List Mark) → Type 0) → ((marks : ℕ → List Mark) → P marks → Q marks) → Runs v b t P → Runs v b t Q

@@ -1,5 +1,4 @@
 -- What a command reads and makes.
-use Rattle.wasm_frame.specs.declared.sections.Version.TheVariants.{One}
 use Rattle.lower_tool.specs.declared.tool.command.Command.{Command as Given}
 use Rattle.lower_tool.specs.declared.tool.command.Command.TheVariants as given
 use Rattle.lower_tool.specs.Words.{Command, lower, check, run}
@@ -8,4 +7,4 @@ use Rattle.lower_tool.specs.Words.{Command, lower, check, run}
 abbrev pub command_of : Given → Command
 command_of (given.Lower input output) = lower input.now output.now
 command_of (given.Check version input) = check version input.now
-command_of (given.Run1 input script turns) = run One input.now script.now turns
+command_of (given.Run version input script turns) = run version input.now script.now turns

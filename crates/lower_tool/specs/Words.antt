@@ -5,7 +5,7 @@ use Rattle.wasm_frame.specs.declared.sections.Version.{Version}
 use Rattle.wasm_frame.specs.declared.sections.Version.TheVariants.{One, Three}
 
 -- a command with what its words give: `lower IN OUT`; `check1 IN` or `check3 IN`, by the version of the format; and
--- `run1 IN SCRIPT TURNS`, by the version too
+-- `run1 IN SCRIPT TURNS` or `run3 IN SCRIPT TURNS`, by the version too
 pub data Command : Type 0 where
   lower : List ℕ → List ℕ → Command
   check : Version → List ℕ → Command
@@ -15,13 +15,15 @@ abbrev pub check_word : Version → List ℕ
 check_word One = codes "check1"
 check_word Three = codes "check3"
 
--- The words are those of the command. A number of turns is below 2 ^ 64, and is written in decimal without a zero in front.
--- Modules of 3.0 are not run yet
+abbrev pub run_word : Version → List ℕ
+run_word One = codes "run1"
+run_word Three = codes "run3"
+
+-- The words are those of the command. A number of turns is below 2 ^ 64, and is written in decimal without a zero in front
 abbrev pub Say : List (List ℕ) → Command → Type 0
 Say words (lower input output) = words ≡ codes "lower" ∷ input ∷ output ∷ []
 Say words (check version input) = words ≡ check_word version ∷ input ∷ []
-Say words (run One input script turns) = (turns < 2 ^ 64) × (words ≡ codes "run1" ∷ input ∷ script ∷ decimal turns ∷ [])
-Say words (run Three input script turns) = ⊥
+Say words (run version input script turns) = (turns < 2 ^ 64) × (words ≡ run_word version ∷ input ∷ script ∷ decimal turns ∷ [])
 
 -- the name of the file of its module, and that of its script, if it has one
 abbrev pub input_of : Command → List ℕ
@@ -54,7 +56,8 @@ IfLower words P = (input output : List ℕ) → Say words (lower input output) �
 abbrev pub IfCheck : List (List ℕ) → (Version → List ℕ → Type 0) → Type 0
 IfCheck words P = (version : Version) (input : List ℕ) → Say words (check version input) → P version input
 
--- P holds of the version, the names and the number of turns, where the words are `run1 IN SCRIPT TURNS`
+-- P holds of the version, the names and the number of turns, where the words are `run1 IN SCRIPT TURNS` or
+-- `run3 IN SCRIPT TURNS`
 abbrev pub IfRun : List (List ℕ) → (Version → List ℕ → List ℕ → ℕ → Type 0) → Type 0
 IfRun words P = (version : Version) (input script : List ℕ) (turns : ℕ) → Say words (run version input script turns) → P version input script turns
 

@@ -1,11 +1,14 @@
-// The verdict on a file that is checked, in either version.
+// The verdict on the module of a file that is checked or run, in either version.
 
-ghost use Rattle.std.specs.Prelude.{◌≡◌, ◌≤◌, length, IfErr, IfOk, OnOk};
+ghost use Rattle.std.specs.Prelude.{◌≡◌, ◌≤◌, length, None, IfErr, IfOk, OnOk};
 ghost use Rattle.wasm_ast.specs.Counts.{Agrees};
 ghost use Rattle.wasm_frame.specs.declared.sections.Version.TheVariants as versions;
 ghost use Rattle.lower_tool.specs.Stops.{IfNotFine};
 ghost use Rattle.module_reading.specs.Limits.{file_limit};
 ghost use Rattle.lower_tool.specs.Verdict.{IsValid, IsValid1, IsValid3, RefusesAsInvalid, RefusesModule1, RefusesModule3};
+ghost use Rattle.pass_stack.specs.Profile.{outside_profile};
+ghost use Rattle.typed_trees.specs.Typed.{module_of};
+ghost use Rattle.valid_mod.specs.Meaning.{SameRuns};
 
 use crate::verdict::{NotFine, Refusal};
 use core1_ast::floats::has_floats;
@@ -14,7 +17,9 @@ use core1_bytes::read1;
 use pass_stack::outside_profile;
 use read_new::read;
 use std::alloc::Global;
+use typed_trees::TypedModule;
 use valid_core1::{Typed1, validate1};
+use valid_mod::validate;
 use wasm_ast::module::Module;
 use wasm_frame::sections::Version;
 
@@ -81,11 +86,35 @@ fn check3_module(alloc: Global, source: &Module) -> Result<(), NotFine>
     ensures fine { OnOk result (IsValid3 source.now) }
     ensures refused { IfErr result (λ fault. IfNotFine fault (λ refusal. RefusesModule3 refusal source.now)) }
 {
-    if let Some(entry) = outside_profile(alloc, source)? {
-        return Err(NotFine::Refused(Refusal::Outside(entry)));
-    }
+    check_profile(alloc, source)?;
     match valid_mod::check(alloc, source) {
         Ok(()) => Ok(()),
         Err(invalid) => Err(NotFine::from(invalid)),
+    }
+}
+
+/// A module of 3.0 that was read, with its types and with the runs that it has. One outside the profile, or that is not
+/// typed, is refused.
+pub fn type3(alloc: Global, source: &Module) -> Result<TypedModule, NotFine>
+    requires { Agrees source.now }
+    ensures runs { IfOk result (λ typed. SameRuns source.now (module_of typed)) }
+    ensures fine { OnOk result (IsValid3 source.now) }
+    ensures refused { IfErr result (λ fault. IfNotFine fault (λ refusal. RefusesModule3 refusal source.now)) }
+{
+    check_profile(alloc, source)?;
+    match validate(alloc, source) {
+        Ok(typed) => Ok(typed),
+        Err(invalid) => Err(NotFine::from(invalid)),
+    }
+}
+
+/// Refuses a module of 3.0 that lies outside the profile.
+fn check_profile(alloc: Global, source: &Module) -> Result<(), NotFine>
+    ensures fine { OnOk result (outside_profile source.now ≡ None) }
+    ensures refused { IfErr result (λ fault. IfNotFine fault (λ refusal. RefusesModule3 refusal source.now)) }
+{
+    match outside_profile(alloc, source)? {
+        Some(entry) => Err(NotFine::Refused(Refusal::Outside(entry))),
+        None => Ok(()),
     }
 }

@@ -1,8 +1,10 @@
-// The whole command over files in memory: each status, each line, and what stands in the output.
+// The whole command over files in memory: each status, each line, and what stands in the output. Runs stand in `runs`.
 
 ghost use Rattle.std.specs.Prelude.{◌≡◌, ◌≢◌, ◌<◌, [], ◌∷◌, IfOk, codes};
 ghost use Rattle.tool_files.specs.Safe.{IsHeld};
 ghost use Rattle.lower_tool.specs.Words.{Say, lower};
+
+mod runs;
 
 use crate::files::{FailAt, MemFiles, SafeFiles};
 use crate::sink::{MemSink, SafeSink};
@@ -491,7 +493,7 @@ fn one_fault_of_a_check(rt: HostRuntime) -> Result<(), Fail> {
 fn other_words_are_no_command(rt: HostRuntime) -> Result<(), Fail> {
     let alloc = rt.alloc();
     // The words, which call of print fails, the status, and what is printed.
-    let rows: [(&[&str], u64, u8, &str); 17] = [
+    let rows: [(&[&str], u64, u8, &str); 19] = [
         (&["lower", "absent", "b"], 0, 3, "cannot read\n"),
         (&["check1", "absent"], 0, 3, "cannot read\n"),
         (&["check1"], 0, 2, "usage\n"),
@@ -506,7 +508,9 @@ fn other_words_are_no_command(rt: HostRuntime) -> Result<(), Fail> {
         (&["run1", "a", "s", "18446744073709551616"], 0, 2, "usage\n"),
         (&["run1", "absent", "s", "5"], 0, 3, "cannot read\n"),
         (&["run1", "a", "absent", "5"], 0, 3, "cannot read\n"),
-        (&["run3", "a", "s", "5"], 0, 2, "usage\n"),
+        (&["run2", "a", "s", "5"], 0, 2, "usage\n"),
+        (&["run3", "a", "s", "05"], 0, 2, "usage\n"),
+        (&["run3", "a", "absent", "5"], 0, 3, "cannot read\n"),
         (&["--help"], 1, 2, ""),
         (&[], 2, 2, "us"),
     ];
@@ -554,84 +558,6 @@ fn one_byte_past_the_limit(rt: HostRuntime) -> Result<(), Fail> {
             outcome
         )?
     );
-    Ok(())
-}
-
-/// A module, a script, how many turns there are, which call of print fails, the status, and what is printed.
-type RunRow<'a> = (&'a [u8], &'a str, &'a str, u64, u8, &'a str);
-
-#[test]
-fn runs_of_modules_of_1_0(rt: HostRuntime) -> Result<(), Fail> {
-    let alloc = rt.alloc();
-    let start: &[u8] =
-        b"\x00asm\x01\x00\x00\x00\x01\x04\x01\x60\x00\x00\x03\x02\x01\x00\x08\x01\x00\x0A\x04\x01\x02\x00\x0B";
-    let nothing = r#"{"version":1,"globals":[],"replies":[],"grows":[],"items":[]}"#;
-    let rows: [RunRow<'_>; 14] = [
-        (&LOWERED, CALLS, "1000000", 0, 0, SHOWN),
-        (&LOWERED, CALLS, "18446744073709551615", 0, 0, SHOWN),
-        // A trap, a global that is set, and then another call.
-        (
-            &DIVIDE,
-            r#"{"version":1,"globals":[],"replies":[],"grows":[],"items":[{"call":["f",[]]},{"set":["g",["i32",9]]},{"call":["h",[]]}]}"#,
-            "1000000",
-            0,
-            0,
-            "started\ntrapped 0 [i32 5]\nreturned 2 () [i32 9]\ndone\n",
-        ),
-        // Too few turns, for a start function too.
-        (
-            &LOWERED,
-            CALLS,
-            "1",
-            0,
-            0,
-            "started\nreturned 0 (i32 127) []\nrunning\n",
-        ),
-        (&LOWERED, CALLS, "0", 0, 0, "started\nrunning\n"),
-        (start, nothing, "0", 0, 0, "running\n"),
-        (start, nothing, "1", 0, 0, "started\ndone\n"),
-        // The sink fails in the first line, and in the last.
-        (&LOWERED, CALLS, "0", 4, 4, "starte"),
-        (&LOWERED, CALLS, "0", 5, 4, "started\n"),
-        // The module is looked at before the script, and the script before it is run.
-        (&EXTEND, "{", "5", 0, 1, "refused: body 0\n"),
-        (&LOWERED, "{", "5", 0, 1, "refused: script: not json\n"),
-        (
-            &DIVIDE,
-            r#"{"version":2,"globals":[],"replies":[],"grows":[],"items":[]}"#,
-            "5",
-            0,
-            1,
-            "refused: script: /version\n",
-        ),
-        (
-            &LOWERED,
-            r#"{"version":1,"globals":[],"replies":[],"grows":[],"items":[{"call":["absent",[]]}]}"#,
-            "5",
-            0,
-            1,
-            "refused: script: does not fit\n",
-        ),
-        (
-            &LOWERED,
-            r#"{"version":1,"globals":[],"replies":[],"grows":[],"items":[{"call":["f",[["i64",1]]]}]}"#,
-            "5",
-            0,
-            1,
-            "refused: script: does not fit\n",
-        ),
-    ];
-    for (module, script, turns, print, status, printed) in rows {
-        let outcome = Outcome {
-            status,
-            printed,
-            written: None,
-        };
-        let failing = Failing { print, ..CALM };
-        let s = script.as_bytes().to_vec(alloc)?;
-        let words = ["run1", "a", "s", turns];
-        assert!(rt; runs_to(alloc, &words, module.to_vec(alloc)?, s, failing, outcome)?);
-    }
     Ok(())
 }
 

@@ -13,8 +13,9 @@ pub enum Command<'a> {
     Lower(&'a str, &'a str),
     /// `check1 IN` or `check3 IN`: whether IN is a valid module of 1.0 or of 3.0.
     Check(Version, &'a str),
-    /// `run1 IN SCRIPT TURNS`: the events of the module of 1.0 IN under SCRIPT within so many turns.
-    Run1(&'a str, &'a str, u64),
+    /// `run1 IN SCRIPT TURNS` or `run3 IN SCRIPT TURNS`: the events of the module IN of 1.0 or of 3.0 under SCRIPT within so
+    /// many turns.
+    Run(Version, &'a str, &'a str, u64),
 }
 
 impl<'a> Command<'a> {
@@ -23,7 +24,7 @@ impl<'a> Command<'a> {
         ensures { result.now ≡ input_of (command_of self.entry) }
     {
         match self {
-            Command::Lower(input, _) | Command::Check(_, input) | Command::Run1(input, _, _) => {
+            Command::Lower(input, _) | Command::Check(_, input) | Command::Run(_, input, _, _) => {
                 input
             }
         }
@@ -34,7 +35,7 @@ impl<'a> Command<'a> {
         ensures { option_map (λ script. script.now) result ≡ script_of (command_of self.entry) }
     {
         match self {
-            Command::Run1(_, script, _) => Some(script),
+            Command::Run(_, _, script, _) => Some(script),
             Command::Lower(_, _) | Command::Check(_, _) => None,
         }
     }
@@ -54,7 +55,14 @@ pub fn parse(words: &[Text]) -> Option<Command<'_>>
         [word, input] if word.as_str() == "check3" => {
             Some(Command::Check(Version::Three, input.as_str()))
         }
-        [word, input, script, turns] if word.as_str() == "run1" => Some(Command::Run1(
+        [word, input, script, turns] if word.as_str() == "run1" => Some(Command::Run(
+            Version::One,
+            input.as_str(),
+            script.as_str(),
+            turns_of(turns.as_str())?,
+        )),
+        [word, input, script, turns] if word.as_str() == "run3" => Some(Command::Run(
+            Version::Three,
             input.as_str(),
             script.as_str(),
             turns_of(turns.as_str())?,

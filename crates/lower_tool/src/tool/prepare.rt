@@ -13,7 +13,7 @@ use super::stop::Stop;
 use crate::checking::check_bytes;
 use crate::files::Files;
 use crate::lowering::lower_bytes;
-use crate::running::run1_bytes;
+use crate::running::run_bytes;
 use crate::verdict::{NotFine, Refusal};
 use module_reading::FILE_LIMIT;
 use std::alloc::Global;
@@ -58,6 +58,8 @@ fn make<'a>(alloc: Global, command: Command<'a>, inputs: Inputs) -> Result<Produ
             check_bytes(alloc, version, bytes.as_slice())?;
             Ok(Product::Fine)
         }
-        Command::Run1(_, _, turns) => Ok(Product::Run(run1_bytes(alloc, bytes, text, turns)?)),
+        Command::Run(version, _, _, turns) => {
+            Ok(Product::Run(run_bytes(alloc, version, bytes, text, turns)?))
+        }
     }
 }

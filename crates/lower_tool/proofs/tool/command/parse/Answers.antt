@@ -31,3 +31,11 @@ returns-in_ok-turns_of-in-len4 c =
     let word : c.as_str-then-words-lt5.result.now ≡ codes "run1" = (bytes_eq-Decides _ _).0 (sym c.if-eq-4.ensures) in
     let number = c.in_ok-turns_of-in-len4.ensures.1 in
     (c.in_ok-turns_of-in-len4.ensures.0, cc)
+
+-- the first word is `run3`, and there are four, the last of which is a number
+pub returns-in_ok-turns_of-in-len4-2 : goal.returns-in_ok-turns_of-in-len4-2
+returns-in_ok-turns_of-in-len4-2 c =
+    let all = four_items c.args.words.now c.word-item-then-words-lt5-2.result c.input-item-then-words-lt5-2.result c.script-item-then-words-lt5.result c.turns-item-then-words-lt5.result c.in-len4.len_at_least c.in-len4.len_below c.word-item-then-words-lt5-2.is c.input-item-then-words-lt5-2.is c.script-item-then-words-lt5.is c.turns-item-then-words-lt5.is in
+    let word : c.as_str-then-words-lt5-2.result.now ≡ codes "run3" = (bytes_eq-Decides _ _).0 (sym c.if-eq-5.ensures) in
+    let number = c.in_ok-turns_of-in-len4-2.ensures.1 in
+    (c.in_ok-turns_of-in-len4-2.ensures.0, cc)

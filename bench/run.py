@@ -1,11 +1,12 @@
 #!/usr/bin/env python3
-"""Times `./wasm1 run1` against wasm-interp of wabt: run1.py DIRECTORY [MILLIONS].
+"""Times `./wasm1 run1` or `./wasm1 run3` against wasm-interp of wabt: run.py DIRECTORY [MILLIONS [run1|run3]].
 
-Writes modules of WebAssembly 1.0 into the directory, each with one function `f` that runs so many million instructions
-(100 where none is said): plain instructions in a loop, loads and stores, blocks and choices in a loop, and calls. Then
-runs both programs on each and prints their CPU time in seconds and its ratio. Last it runs a million calls in one
-another, and growths of a memory by a page at a time, by `./wasm1` alone, and prints the time and the most memory. Where
-wasm-interp is not on the path, only the first is timed.
+Writes modules of WebAssembly 1.0 into the directory, which are modules of 3.0 too, each with one function `f` that runs so
+many million instructions (100 where none is said): plain instructions in a loop, loads and stores, blocks and choices in
+a loop, and calls. Then runs both programs on each and prints their CPU time in seconds and its ratio. Last it runs a
+million calls in one another, growths of a memory by a page at a time, and under run3 ten million tail calls, by
+`./wasm1` alone, and prints the time and the most memory of a small number of each and of the whole. Where wasm-interp is
+not on the path, only the first is timed.
 """
 import json
 import shutil
@@ -61,6 +62,10 @@ def call(func):
     return b"\x10" + number(func)
 
 
+def tail_call(func):
+    return b"\x12" + number(func)
+
+
 def function(locals_, code):
     body = vector([number(locals_) + b"\x7f"] if locals_ else []) + code + END
     return number(len(body)) + body
@@ -104,9 +109,18 @@ def calls(millions):
     return module([0, 1], [function(0, const(depth) + call(1)), function(0, fib)])
 
 
-def nested(count):
-    down = get(0) + EQZ + b"\x04\x7f" + const(7) + ELSE + get(0) + const(1) + SUB + call(1) + END
+# A function that calls itself so many times, in the way that is said.
+def countdown(count, again):
+    down = get(0) + EQZ + b"\x04\x7f" + const(7) + ELSE + get(0) + const(1) + SUB + again(1) + END
     return module([0, 1], [function(0, const(count) + call(1)), function(0, down)])
+
+
+def nested(count):
+    return countdown(count, call)
+
+
+def tails(count):
+    return countdown(count, tail_call)
 
 
 def growths(count):
@@ -117,22 +131,26 @@ def main():
     directory = Path(sys.argv[1])
     directory.mkdir(parents=True, exist_ok=True)
     millions = int(sys.argv[2]) if len(sys.argv) > 2 else 100
+    command = sys.argv[3] if len(sys.argv) > 3 else "run1"
     script = directory / "script.json"
     script.write_text(json.dumps(SCRIPT))
     other = shutil.which("wasm-interp")
     for kind in (plain, accesses, choices, calls):
         path = directory / (kind.__name__ + ".wasm")
         path.write_bytes(kind(millions))
-        status, ours, _ = timed([PROGRAM, "run1", str(path), str(script), TURNS])
+        status, ours, _ = timed([PROGRAM, command, str(path), str(script), TURNS])
         line = f"{kind.__name__}: status {status}, {ours:.3f} s"
         if other:
             status, theirs, _ = timed([other, str(path), "--run-all-exports"])
             line += f"; wasm-interp status {status}, {theirs:.3f} s, ratio {ours / max(theirs, 0.001):.2f}"
         print(line)
-    for kind, count in ((nested, 1_000), (nested, 1_000_000), (growths, 100), (growths, 10_000)):
+    large = [(nested, 1_000), (nested, 1_000_000), (growths, 100), (growths, 10_000)]
+    if command == "run3":
+        large += [(tails, 1_000), (tails, 10_000_000)]
+    for kind, count in large:
         path = directory / (kind.__name__ + ".wasm")
         path.write_bytes(kind(count))
-        status, ours, memory = timed([PROGRAM, "run1", str(path), str(script), TURNS])
+        status, ours, memory = timed([PROGRAM, command, str(path), str(script), TURNS])
         print(f"{kind.__name__} {count}: status {status}, {ours:.3f} s, {memory / 1_000_000:.1f} MB")
 
 
