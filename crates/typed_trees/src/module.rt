@@ -67,6 +67,15 @@ impl TypedModule {
         self.fns.as_slice()
     }
 
+    /// The parts and the bodies, which are typed.
+    pub fn tree(&self) -> (&Module, &[TypedFn])
+        ensures part { result.0.now ≡ self.now.0 }
+        ensures functions { result.1.now ≡ self.now.1 }
+        ensures typed { IsTypedTree self.now }
+    {
+        (&self.part, self.fns.as_slice())
+    }
+
     /// The body at this place, counted from 0.
     pub fn function(&self, f: u32) -> &TypedFn
         requires { f < length self.now.1 }

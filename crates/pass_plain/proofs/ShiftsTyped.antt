@@ -1,5 +1,5 @@
 -- Shifts in place of sign extensions are typed as these are.
-use Rattle.std.proofs.Common.{◌≡◌, ℕ, List, [], ◌∷◌, Option, Some, Result, Ok, Err, IfOk, refl, sym, ap, ◌∙◌, subst}
+use Rattle.std.proofs.Common.{◌≡◌, ℕ, List, [], ◌∷◌, Option, Some, refl, sym, ap, ◌∙◌, subst}
 use Rattle.num_core.specs.declared.operators.Width.{Width}
 use Rattle.num_core.specs.declared.operators.Width.TheVariants.{W32, W64}
 use Rattle.num_core.specs.declared.operators.Bin.{Bin}
@@ -23,7 +23,8 @@ use Rattle.rewriting_kit.specs.Plainly.{OwesPlainly}
 use Rattle.rewriting_kit.proofs.Joining.{over, join}
 use Rattle.rewriting_kit.proofs.Staying.{put_together}
 use Rattle.rewriting_kit.proofs.Plain.{plainly_typed}
-use Rattle.rewriting_kit_tests.specs.Shifts.{constant_node, shift, extend, shifted, no_entry, by_shifts}
+use Rattle.pass_plain.specs.Bodies.{no_entry}
+use Rattle.pass_plain.specs.Shifts.{constant_node, shift, extend, shifted, by_shifts}
 
 module _ (c : Context) (ls : List (List Ty)) where
   out_pure : (op : Op) → out-Instr (Pure op) ≡ Instr-F.Pure op
@@ -72,8 +73,3 @@ owes c = record {
 
 pub shifts_typed : (c : Context) (ls : List (List Ty)) (nodes : List Node) (start : List Ty) (end : Option (List Ty)) → TypedNodes c ls nodes start end → TypedNodes c ls (rewritten no_entry by_shifts nodes []) start end
 shifts_typed c ls nodes start end h = plainly_typed no_entry by_shifts c c (owes c) [] ls nodes start end h
-
-pub of_rewritten : {X : Type 0} (nodes : List Node) (r : Result (List Node) X) → IfOk r (λ new. new ≡ rewritten no_entry by_shifts nodes [])
-    → IfOk r (λ new. (c : Context) (ls : List (List Ty)) (start : List Ty) (end : Option (List Ty)) → TypedNodes c ls nodes start end → TypedNodes c ls new start end)
-of_rewritten nodes (Ok new) e = λ c ls start end h. subst (λ l. TypedNodes c ls l start end) (sym e) (shifts_typed c ls nodes start end h)
-of_rewritten nodes (Err fault) e = tt

@@ -38,9 +38,5 @@ shifted (Instr-F.Pure (ops.Convert S16of64)) kept = extend W64 48
 shifted (Instr-F.Pure (ops.Convert S32of64)) kept = extend W64 32
 shifted _ kept = kept
 
--- nothing needs to be known of open bodies
-abbrev pub no_entry : Instr → Unit {0}
-no_entry head = tt
-
 abbrev pub by_shifts : Layer (Unit {0})
 by_shifts x head takes gives first second = shifted (out-Instr head) (node_of head takes gives first second ∷ [])

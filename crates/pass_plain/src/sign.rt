@@ -1,26 +1,36 @@
-// Sign extension by two shifts.
+// Comes in: a module of 3.0. Goes out: the same parts and bodies, without sign extensions.
+// Each extension of the lowest bits of an integer becomes a shift to the left and one back, which copies the sign.
+// Assumed: nothing beside that the module is typed, so that no constant expression extends a sign.
+// Right because: the two shifts do to any operands what the extension does, in no turn as it does, so every body is the
+// same function as before.
 
-ghost use Rattle.std.specs.Prelude.{◌≡◌, ◌++◌, List, [], ◌∷◌, Option, IfOk, OnOk};
-ghost use Rattle.typed_trees.specs.Operands.{int_type};
-ghost use Rattle.typed_trees.specs.Contexts.{Context};
-ghost use Rattle.typed_trees.specs.Trees.{TypedNodes};
-ghost use Rattle.rewriting_kit.specs.Rewrites.{rewritten, node_of};
-ghost use Rattle.rewriting_kit_tests.specs.Shifts.{constant, shift, extend, no_entry, by_shifts};
+ghost use Rattle.std.specs.Prelude.{◌≡◌, ◌≤◌, ◌++◌, [], ◌∷◌, true, IfOk, OnOk};
 ghost use Rattle.wasm_ast.specs.declared.module.code.Instr.TheVariants.{Pure};
-ghost use Rattle.wasm_ast.specs.declared.module.ty.Ty.{Ty};
+ghost use Rattle.typed_trees.specs.Operands.{int_type};
+ghost use Rattle.typed_trees.specs.Typed.{module_of};
+ghost use Rattle.rewriting_kit.specs.Rewrites.{node_of};
+ghost use Rattle.pass_law.specs.Law.{Law};
+ghost use Rattle.pass_law.specs.Needs.{needs_of};
+ghost use Rattle.pass_law.specs.Stages.{Stage};
+ghost use Rattle.pass_plain.specs.Bodies.{no_entry};
+ghost use Rattle.pass_plain.specs.Plans.{sign_plan, sign_lawful};
+ghost use Rattle.pass_plain.specs.Shifts.{constant, shift, extend, by_shifts};
 
+use crate::bodies::rewrite_functions;
+use num_core::lists::TryCopy;
 use num_core::operators::{Bin, Conv, Width};
-use rewriting_kit::{Rewriting, keep, rewrite};
+use pass_law::{Pass, Settings};
+use rewriting_kit::{Rewriting, keep};
 use sqlite_items::Items;
 use std::alloc::{AllocError, Global};
-use typed_trees::{Node, Nodes, Signature};
+use typed_trees::{Nodes, Signature, TypedModule};
 use wasm_ast::module::{Instr, Op, Ty};
 
-/// Each sign extension of the lowest bits of an integer becomes two shifts.
+/// The stage that writes sign extension by shifts.
 #[derive(Clone, Copy)]
-pub struct Shifts;
+pub struct Sign;
 
-impl Rewriting<()> for Shifts {
+impl Rewriting<()> for Sign {
     ghost entry = { λ s. no_entry };
 
     ghost layer = { λ s. by_shifts };
@@ -111,10 +121,26 @@ fn put(alloc: Global, op: Op, takes: &[Ty], gives: &[Ty], out: &mut Nodes) -> Re
     )
 }
 
-/// The code of a body with shifts in place of sign extensions: what was typed is typed as it was.
-pub fn lowered(alloc: Global, nodes: &[Node]) -> Result<Nodes, AllocError>
-    ensures code { IfOk result (λ new. new ≡ rewritten no_entry by_shifts nodes.now []) }
-    ensures typed { IfOk result (λ new. (c : Context) (ls : List (List Ty)) (start : List Ty) (end : Option (List Ty)) → TypedNodes c ls nodes.now start end → TypedNodes c ls new start end) }
-{
-    rewrite(alloc, &Shifts, nodes)
+impl Pass for Sign {
+    ghost plan = { sign_plan };
+
+    fn lower(
+        &self,
+        alloc: Global,
+        m: &TypedModule,
+        settings: &Settings,
+    ) -> Result<TypedModule, AllocError>
+        requires takes { sign_plan.takes (needs_of (module_of m.now)) ≡ true }
+        requires stage { Stage (module_of m.now) }
+        requires least { 1 ≤ settings.now.captures }
+        requires most { settings.now.captures ≤ 16384 }
+        ensures law { IfOk result (λ o. Law sign_plan (module_of m.now) (module_of o) settings.now.captures) }
+    {
+        let (part, fns) = m.tree();
+        let part = part.copy(alloc)?;
+        let fns = rewrite_functions(alloc, self, fns)?;
+        Ok(TypedModule::build(part, fns))
+    }
+
+    ghost lawful = { sign_lawful };
 }

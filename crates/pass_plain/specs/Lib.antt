@@ -1,0 +1,4 @@
+pub mod Bodies
+pub mod Shifts
+pub mod Trimming
+pub mod Plans

@@ -1,0 +1,117 @@
+// Comes in: a module of 3.0. Goes out: the same module without nops, exports of tags, and a count of data segments that
+// no body asks for.
+// Each node but a nop stays, and so does each export but a tag.
+// Assumed: nothing beside that the module is typed, so that its exports have different names.
+// Right because: a nop does nothing in no turn, no script asks for a tag, and no instruction reads the count.
+
+ghost use Rattle.std.specs.Prelude.{◌≡◌, ◌≤◌, ◌++◌, [], ◌∷◌, true, IfOk, OnOk};
+ghost use Rattle.typed_trees.specs.Typed.{module_of};
+ghost use Rattle.pass_law.specs.Law.{Law};
+ghost use Rattle.pass_law.specs.Needs.{needs_of};
+ghost use Rattle.pass_law.specs.Stages.{Stage};
+ghost use Rattle.pass_plain.specs.Bodies.{no_entry};
+ghost use Rattle.pass_plain.specs.Plans.{trim_plan, trim_lawful};
+ghost use Rattle.pass_plain.specs.Trimming.{by_trimming, untagged, trimmed_part};
+
+use crate::bodies::rewrite_functions;
+use crate::counts::ask_for_count;
+use num_core::lists::TryCopy;
+use pass_law::{Pass, Settings};
+use rewriting_kit::{Rewriting, keep};
+use sqlite_items::Items;
+use std::alloc::{AllocError, Global};
+use typed_trees::{Nodes, Signature, TypedFn, TypedModule};
+use wasm_ast::module::{Export, ExportDesc, Instr, Module};
+
+/// The stage that drops what does nothing and what no host of 1.0 is shown.
+#[derive(Clone, Copy)]
+pub struct Trim;
+
+impl Rewriting<()> for Trim {
+    ghost entry = { λ s. no_entry };
+
+    ghost layer = { λ s. by_trimming };
+
+    fn entry(&self, _head: &Instr) -> ()
+        ensures { result ≡ no_entry _head.now }
+    {}
+
+    fn layer(
+        &self,
+        alloc: Global,
+        _around: &[()],
+        head: &Instr,
+        types: &Signature,
+        first: Nodes,
+        second: Nodes,
+        out: &mut Nodes,
+    ) -> Result<(), AllocError>
+        ensures { OnOk result (out.new ≡ out.old ++ by_trimming _around.now head.now types.now.0 types.now.1 first second) }
+    {
+        match head {
+            Instr::Nop => Ok(()),
+            _ => keep(alloc, head, types, first, second, out),
+        }
+    }
+}
+
+/// Puts an export that is no tag behind others.
+fn put_untagged(alloc: Global, export: &Export, out: &mut Items<Export>) -> Result<(), AllocError>
+    ensures { OnOk result (out.new ≡ out.old ++ untagged (export.now ∷ [])) }
+{
+    match export.desc {
+        ExportDesc::Tag(_) => Ok(()),
+        _ => out.push(export.copy(alloc)?),
+    }
+}
+
+/// The exports that are no tags.
+fn untagged_exports(alloc: Global, exports: &[Export]) -> Result<Items<Export>, AllocError>
+    ensures { IfOk result (λ kept. kept ≡ untagged exports.now) }
+{
+    let mut kept = Items::new(alloc);
+    for export in exports {
+        put_untagged(alloc, export, &mut kept)?;
+    }
+    Ok(kept)
+}
+
+/// The parts without what goes.
+fn trimmed_part(alloc: Global, part: &Module, fns: &[TypedFn]) -> Result<Module, AllocError>
+    ensures { IfOk result (λ new. new ≡ trimmed_part (part.now, fns.now)) }
+{
+    let exports = untagged_exports(alloc, part.exports.as_slice())?;
+    let count = if ask_for_count(fns) {
+        part.data_count
+    } else {
+        None
+    };
+    let mut new = part.copy(alloc)?;
+    new.exports = exports;
+    new.data_count = count;
+    Ok(new)
+}
+
+impl Pass for Trim {
+    ghost plan = { trim_plan };
+
+    fn lower(
+        &self,
+        alloc: Global,
+        m: &TypedModule,
+        settings: &Settings,
+    ) -> Result<TypedModule, AllocError>
+        requires takes { trim_plan.takes (needs_of (module_of m.now)) ≡ true }
+        requires stage { Stage (module_of m.now) }
+        requires least { 1 ≤ settings.now.captures }
+        requires most { settings.now.captures ≤ 16384 }
+        ensures law { IfOk result (λ o. Law trim_plan (module_of m.now) (module_of o) settings.now.captures) }
+    {
+        let (part, fns) = m.tree();
+        let part = trimmed_part(alloc, part, fns)?;
+        let fns = rewrite_functions(alloc, self, fns)?;
+        Ok(TypedModule::build(part, fns))
+    }
+
+    ghost lawful = { trim_lawful };
+}
