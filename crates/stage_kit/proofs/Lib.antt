@@ -1,0 +1,13 @@
+pub mod Moving
+pub mod Staying
+pub mod Hosts
+pub mod Scripts
+pub mod Staged
+pub mod Lists
+pub mod Naming
+pub mod NamingForms
+pub mod Appending
+pub mod Starting
+pub mod Beginning
+pub mod Erased
+pub mod Bodies

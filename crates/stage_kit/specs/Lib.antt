@@ -1,0 +1,6 @@
+pub mod Adding
+pub mod Kept
+pub mod Hosting
+pub mod Staged
+pub mod Naming
+pub mod Appended
