@@ -1,0 +1,5 @@
+pub mod Wider
+pub mod Regions
+pub mod Pages
+pub mod Loads
+pub mod Entry
