@@ -1,0 +1,5 @@
+pub mod Code
+pub mod Modules
+pub mod States
+pub mod Crossing
+pub mod Interfaces
