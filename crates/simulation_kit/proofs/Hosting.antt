@@ -14,7 +14,7 @@ use Rattle.simulation_kit.proofs.Running.{runs_done, runs_bind, runs_map}
 use Rattle.simulation_kit.proofs.Depths.{calls_first}
 
 module _ {V S V' S' : Type 0} (W : Match V S V' S') (Idle Parts : S → S' → Type 0) where
-  places : (w : World S) (w' : World S') (r : Status S) (r' : Status S') → Depths W 0 w w' → StateMatches W Idle Parts r r' → Statuses W Idle Parts (placed w r) (placed w' r')
+  pub places : (w : World S) (w' : World S') (r : Status S) (r' : Status S') → Depths W 0 w w' → StateMatches W Idle Parts r r' → Statuses W Idle Parts (placed w r) (placed w' r')
   places w w' (Go s) (Go s') h g = record { depths = record { reached = h.reached; bound = h.bound }; state = g }
   places w w' (Go s) (Leave j' s') h g = absurd g
   places w w' (Leave j s) (Go s') h g = record { depths = record { reached = h.reached; bound = h.bound }; state = g }
@@ -33,7 +33,7 @@ module _ {V S V' S' : Type 0} (W : Match V S V' S') (Idle Parts : S → S' → T
   abbrev pub NeverAlone : Type 0
   NeverAlone = (s : S) (s' : S') → Parts s s' → ⊥
 
-  goes_on : NeverAlone → (N : ℕ) (a : ℕ → World S → Out (World S) (Status (World S))) (b : ℕ → World S' → Out (World S') (Status (World S'))) → TaskSims W Idle Parts N a b → (r : Status (World S)) (r' : Status (World S')) (i : ℕ) → i < N → Statuses W Idle Parts r r' → Runs W.exact (Halts W) (statuses W Idle Parts) i (go_on a r i) (λ j. go_on b r' j)
+  pub goes_on : NeverAlone → (N : ℕ) (a : ℕ → World S → Out (World S) (Status (World S))) (b : ℕ → World S' → Out (World S') (Status (World S'))) → TaskSims W Idle Parts N a b → (r : Status (World S)) (r' : Status (World S')) (i : ℕ) → i < N → Statuses W Idle Parts r r' → Runs W.exact (Halts W) (statuses W Idle Parts) i (go_on a r i) (λ j. go_on b r' j)
   goes_on alone N a b sims (Go w) (Go w') i lt g = sims.by i w w' lt g.depths g.state
   goes_on alone N a b sims (Go w) (Leave j' w') i lt g = absurd g.state
   goes_on alone N a b sims (Leave j w) (Go w') i lt g = absurd (alone w.state w'.state g.state)
@@ -54,7 +54,7 @@ module _ {V S V' S' : Type 0} (W : Match V S V' S') (Idle Parts : S → S' → T
         runs_done W.exact (Halts W) (statuses W Idle Parts) n (placed w (f w.state)) (placed w' (f' w'.state)) (places w w' (f w.state) (f' w'.state) depths (h.changes w.state w'.state idle));
   }
 
-  stuck_placed : (w : World S) (r : Status S) → IsStuckStatus r W.strict → IsStuckStatus (placed w r) W.strict
+  pub stuck_placed : (w : World S) (r : Status S) → IsStuckStatus r W.strict → IsStuckStatus (placed w r) W.strict
   stuck_placed w (Leave Stuck s) f = f
   stuck_placed w (Leave j s) f = absurd f
   stuck_placed w (Go s) f = absurd f
@@ -110,7 +110,7 @@ module _ {V S V' S' : Type 0} (W : Match V S V' S') (Idle Parts : S → S' → T
     status_halts (Leave j w) (Leave j' w') g = record { state = g.state; bound = g.depths.bound }
 
     -- where the output is when the input is done or halted within n turns
-    final_of : (n : ℕ) (o : Out (World S) (Status (World S))) (t : ℕ → Out (World S') (Status (World S'))) → Meets W.exact (Halts W) (statuses W Idle Parts) n o t → IsStuckRun o W.strict ⊎ Final W n (place_of stands o) (λ j. place_of stands (t j))
+    pub final_of : (n : ℕ) (o : Out (World S) (Status (World S))) (t : ℕ → Out (World S') (Status (World S'))) → Meets W.exact (Halts W) (statuses W Idle Parts) n o t → IsStuckRun o W.strict ⊎ Final W n (place_of stands o) (λ j. place_of stands (t j))
     final_of n (Done u r) t (inl f) = inl f
     final_of n (Done u r) t (inr c) = let end = comes_final W.exact n u r t c (status_halts r c.result c.matches) in inr (record { turns = end.0; spends = end.1; halts = end.2 })
     final_of n (Halt w) t s = inr (record { turns = s.turns; spends = s.spends; halts = subst (λ v. Halts W w v) (ap (place_of stands) (sym s.does)) s.matches })

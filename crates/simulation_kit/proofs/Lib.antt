@@ -12,6 +12,9 @@ pub mod Liking
 pub mod LikeCode
 pub mod Mirroring
 pub mod Doing
+pub mod Ending
+pub mod Preparing
+pub mod PreparedLike
 pub mod Leaves
 pub mod Fitting
 pub mod Selves

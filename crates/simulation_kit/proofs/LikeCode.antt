@@ -195,13 +195,13 @@ module _ {V S V' S' : Type 0} (K : Likeness V S V' S') {I I' X : Type 0} {F F' :
   abbrev pub Rests : S → S' → Type 0
   Rests s s' = K.States s s' × K.keeps.Safe s
 
-  statuses : (r : Status S) (r' : Status S') → StatusLike K r r' → StateMatches W Rests NoParts r r'
+  pub statuses : (r : Status S) (r' : Status S') → StatusLike K r r' → StateMatches W Rests NoParts r r'
   statuses (Go s) (Go s') h = h
   statuses (Go s) (Leave j' s') h = absurd h
   statuses (Leave j s) (Go s') h = absurd h
   statuses (Leave j s) (Leave j' s') h = h
 
-  at_values : {a : List V} {s : S} {a' : List V'} {s' : S'} → Handed K a s a' s' → Handed K a s (K.values a) s'
+  pub at_values : {a : List V} {s : S} {a' : List V'} {s' : S'} → Handed K a s a' s' → Handed K a s (K.values a) s'
   at_values g = record { operands = refl; state = g.state; sound = g.sound; safe = g.safe }
 
   sees : (see : PlainRes V S → Status S) (see' : PlainRes V' S' → Status S') → SeeLike K see see' → (r : PlainRes V S) (r' : PlainRes V' S') → PlainReturns W tt r r' → StateMatches W Rests NoParts (see r) (see' r')
@@ -227,7 +227,7 @@ module _ {V S V' S' : Type 0} (K : Likeness V S V' S') {I I' X : Type 0} {F F' :
     stuck = h.4.stuck;
   }
 
-  tasks_stay : (ts : List (Task V S)) (ts' : List (Task V' S')) → TasksLike K ts ts' → TasksStay W Rests NoParts ts ts'
+  pub tasks_stay : (ts : List (Task V S)) (ts' : List (Task V' S')) → TasksLike K ts ts' → TasksStay W Rests NoParts ts ts'
   tasks_stay [] [] h = tt
   tasks_stay [] (t' ∷ ts') h = absurd h
   tasks_stay (t ∷ ts) [] h = absurd h
