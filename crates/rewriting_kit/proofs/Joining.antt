@@ -9,7 +9,7 @@ value_or : {A : Type 0} → A → Option A → A
 value_or a None = a
 value_or a (Some x) = x
 
-some_same : {A : Type 0} (x y : A) → Some x ≡ Some y → x ≡ y
+pub some_same : {A : Type 0} (x y : A) → Some x ≡ Some y → x ≡ y
 unfolding value_or
 some_same x y e = ap (value_or x) e
 

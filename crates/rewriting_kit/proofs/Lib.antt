@@ -3,3 +3,12 @@ pub mod Typing
 pub mod Folding
 pub mod Staying
 pub mod Plain
+pub mod Lines
+pub mod Trees
+pub mod Showing
+pub mod MovingForms
+pub mod MovedParts
+pub mod Moving
+pub mod Images
+pub mod Mapped
+pub mod Inserted

@@ -11,7 +11,7 @@ use Rattle.rewriting_kit.specs.Fitting.{Here, Fits, Enters, Owes, after}
 use Rattle.rewriting_kit.specs.Plainly.{plain_world, OwesPlainly}
 use Rattle.rewriting_kit.proofs.Typing.{code_typed}
 
-same_end : (end : Option (List Ty)) → option_map (λ (s : List Ty). s) end ≡ end
+pub same_end : (end : Option (List Ty)) → option_map (λ (s : List Ty). s) end ≡ end
 same_end None = refl
 same_end (Some s) = refl
 
