@@ -36,7 +36,7 @@ taken_first P Q m t = and_left (P.takes (needs_of m)) (Q.takes (P.leaves (needs_
 no_more : (P Q : Plan) → Lawful Q → (m between o : Module) → NoMore (needs_of between) (P.leaves (needs_of m)) → NoMore (needs_of o) (Q.leaves (needs_of between)) → NoMore (needs_of o) ((then P Q).leaves (needs_of m))
 no_more P Q q m between o first second =
     let less : NoMore (Q.leaves (needs_of between)) (Q.leaves (P.leaves (needs_of m))) = q.leaves_less (needs_of between) (P.leaves (needs_of m)) first in
-    record { has = λ f e. less.has f (second.has f e); region = λ e. less.region (second.region e) }
+    record { has = λ f e. less.has f (second.has f e); region = λ e. less.region (second.region e); computed_exports = λ e. less.computed_exports (second.computed_exports e) }
 
 module _ (P Q : Plan) (p : Lawful P) (q : Lawful Q) (h : HostTypes) (m between o : Module) (captures : ℕ) (first : LawAt P h m between captures) (second : LawAt Q (P.types h) between o captures) where
   -- the two scripts for the stages, and the maps of events at a script

@@ -15,7 +15,7 @@ any_event h s e = true
 
 -- all that a module may need
 abbrev pub everything : Needs → Needs
-everything n = record { has = λ f. true; region = true }
+everything n = record { has = λ f. true; region = true; computed_exports = true }
 
 abbrev pub same_plan : Plan
 same_plan = plain takes_all (λ n. n) any_event 1 0
@@ -35,7 +35,7 @@ same_lawful = plain_lawful takes_all (λ n. n) any_event 1 0 (record {
 pub loose_lawful : Lawful loose_plan
 loose_lawful = plain_lawful takes_all everything any_event 2 3 (record {
   takes_less = λ less more h t. refl;
-  leaves_less = λ less more h. record { has = λ f e. e; region = λ e. e };
+  leaves_less = λ less more h. record { has = λ f e. e; region = λ e. e; computed_exports = λ e. e };
   test_regrows = λ h s grows e. refl;
   full_passes = λ h s. refl;
   failed_passes = λ h s. refl;

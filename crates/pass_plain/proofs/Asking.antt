@@ -15,6 +15,7 @@ use Rattle.typed_trees.specs.declared.node.Node.TheFolds.{map-Node, fold_out-Nod
 use Rattle.typed_trees.specs.Trees.{with_bodies, first_held, second_held, erase, erased, head_of, first_of, second_of}
 use Rattle.typed_trees.proofs.Erasing.{erase_out}
 use Rattle.pass_plain.specs.Trimming.{asks, asks_layer}
+use Rattle.rewriting_kit.proofs.Showing.{or_left, or_right, or_both, unless_true, any_of}
 use Rattle.pass_plain.proofs.Trees.{induct_node, first_rolled, second_rolled}
 
 any_mapped : (nodes : List Node) → list_any (λ b. b) (map asks nodes) ≡ list_any asks nodes
@@ -31,14 +32,6 @@ held_mapped i types (Some b) =
 pub asks_out : (n : Node) → asks n ≡ (is_data_use (occurrence.head_of (head_of n)) || list_any asks (first_of n) || list_any asks (second_of n))
 asks_out n = fold_out-Node Bool asks_layer n ∙ held_mapped (out-Node n).head (out-Node n).types (out-Node n).bodies
 
-or_left : (a b : Bool) → a ≡ true → (a || b) ≡ true
-or_left true b h = refl
-or_left false b h = absurd cc
-
-or_right : (a b : Bool) → b ≡ true → (a || b) ≡ true
-or_right true b h = refl
-or_right false b h = h
-
 -- one after another
 module _ (n : Node) where
   abbrev here : Bool
@@ -54,25 +47,17 @@ module _ (n : Node) where
   asks_second e e' =
       sym (asks_out n ∙ ap (λ b. b || list_any asks (first_of n) || list_any asks (second_of n)) e ∙ ap (λ b. b || list_any asks (second_of n)) e')
 
-or_both : (a b x y : Bool) → (a ≡ true → x ≡ true) → (b ≡ true → y ≡ true) → (a || b) ≡ true → (x || y) ≡ true
-or_both true b x y f g h = or_left x y (f refl)
-or_both false b x y f g h = or_right x y (g h)
-
 -- where an instruction or one in its bodies names a segment
 abbrev uses : Instr → Bool
 uses = some is_data_use
 
-any_of : (code : List Instr) → list_any (λ b. b) (map uses code) ≡ list_any uses code
-any_of [] = refl
-any_of (i ∷ code) = ap (λ b. uses i || b) (any_of code)
-
 layer_asks : (l : Instr-F Instr) (a b : List Instr) (x y : Bool) → (list_any uses a ≡ true → x ≡ true) → (list_any uses b ≡ true → y ≡ true) → some_step is_data_use (map-Instr Instr Bool uses (with_bodies l a b)) ≡ true → (is_data_use (head l) || x || y) ≡ true
-layer_asks (Instr-F.Block t code) a b x y f g h = or_left x y (f (sym (any_of a) ∙ h))
-layer_asks (Instr-F.Loop t code) a b x y f g h = or_left x y (f (sym (any_of a) ∙ h))
+layer_asks (Instr-F.Block t code) a b x y f g h = or_left x y (f (sym (any_of is_data_use a) ∙ h))
+layer_asks (Instr-F.Loop t code) a b x y f g h = or_left x y (f (sym (any_of is_data_use a) ∙ h))
 layer_asks (Instr-F.If t code code') a b x y f g h =
-    or_both (list_any (λ z. z) (map uses a)) (list_any (λ z. z) (map uses b)) x y (λ e. f (sym (any_of a) ∙ e)) (λ e. g (sym (any_of b) ∙ e))
+    or_both (list_any (λ z. z) (map uses a)) (list_any (λ z. z) (map uses b)) x y (λ e. f (sym (any_of is_data_use a) ∙ e)) (λ e. g (sym (any_of is_data_use b) ∙ e))
     (sym (list_any-append (λ z. z) (map uses a) (map uses b)) ∙ h)
-layer_asks (Instr-F.TryTable t clauses code) a b x y f g h = or_left x y (f (sym (any_of a) ∙ h))
+layer_asks (Instr-F.TryTable t clauses code) a b x y f g h = or_left x y (f (sym (any_of is_data_use a) ∙ h))
 layer_asks (Instr-F.MemoryInit segment memory) a b x y f g h = refl
 layer_asks (Instr-F.DataDrop segment) a b x y f g h = refl
 layer_asks l a b x y f g h = absurd cc
@@ -101,10 +86,6 @@ node_asks = induct_node Asks (λ l.
     by_bodies (roll-Node (map-Node ((n : Node) × Asks n) Node (λ k. k.0) l))
     (subst CodeAsks (sym (first_rolled (λ (k : (n : Node) × Asks n). k.0) l)) (known (first_held l.bodies)))
     (subst CodeAsks (sym (second_rolled (λ (k : (n : Node) × Asks n). k.0) l)) (known (second_held l.bodies))))
-
-unless_true : (a b : Bool) → (a ≡ true → b ≡ true) → b ≡ false → a ≡ false
-unless_true true b f e = sym (f refl) ∙ e
-unless_true false b f e = refl
 
 -- code that names a segment stands for nodes that do
 pub code_asks : (nodes : List Node) → names_data (erased nodes) ≡ true → list_any asks nodes ≡ true

@@ -101,3 +101,7 @@ tree_of part fns = (part, fns)
 
 pub same_tree : (part part' : Module) (fns fns' : List TypedFn) → part ≡ part' → fns ≡ fns' → tree_of part fns ≡ tree_of part' fns'
 same_tree part part' fns fns' e e' = ap (λ p. tree_of p fns) e ∙ ap (tree_of part') e'
+
+-- what holds of a tree holds of parts and functions that are its own
+pub at_tree : (P : Module × List TypedFn → Type 0) (t : Module × List TypedFn) (part : Module) (fns : List TypedFn) → part ≡ t.0 → fns ≡ t.1 → P t → P (tree_of part fns)
+at_tree P t part fns e e' h = subst P (sym (same_tree part t.0 fns t.1 e e')) h

@@ -9,8 +9,6 @@ use Rattle.num_core.specs.declared.operators.Conv.{Conv}
 use Rattle.wasm_ast.specs.declared.features.kind.Feature.{Feature}
 use Rattle.wasm_ast.specs.declared.features.kind.Feature.TheVariants as features
 use Rattle.wasm_ast.specs.declared.module.op.Op.TheVariants as ops
-use Rattle.wasm_ast.specs.declared.module.ty.BlockType.{BlockType}
-use Rattle.wasm_ast.specs.declared.module.immediates.Catch.{Catch}
 use Rattle.wasm_ast.specs.declared.module.code.Instr.{Instr, roll-Instr}
 use Rattle.wasm_ast.specs.declared.module.code.Instr.TheOpen.{Instr-F}
 use Rattle.wasm_ast.specs.declared.module.code.Instr.TheFolds.{map-Instr, fold-roll-Instr}
@@ -23,13 +21,7 @@ use Rattle.pass_law.specs.Hosts.{catches_by_reference}
 use Rattle.pass_law.specs.Stages.{copies_data, copies_elements}
 use Rattle.pass_plain.specs.Plans.{is_sign}
 use Rattle.pass_plain.proofs.Readings.{Reading, read}
-
--- A test that does not see the bodies of an instruction.
-pub record Blind (p : Head → Bool) : Type 0 where
-  pub block : (t : BlockType) (c c' : List (Unit {0})) → p (Instr-F.Block t c) ≡ p (Instr-F.Block t c')
-  pub loop : (t : BlockType) (c c' : List (Unit {0})) → p (Instr-F.Loop t c) ≡ p (Instr-F.Loop t c')
-  pub choice : (t : BlockType) (c d c' d' : List (Unit {0})) → p (Instr-F.If t c d) ≡ p (Instr-F.If t c' d')
-  pub guarded : (t : BlockType) (clauses : List Catch) (c c' : List (Unit {0})) → p (Instr-F.TryTable t clauses c) ≡ p (Instr-F.TryTable t clauses c')
+pub use Rattle.rewriting_kit.proofs.Showing.{Blind, or_none}
 
 -- One that sees neither nops nor integer arithmetic either.
 pub record Overlooks (p : Head → Bool) : Type 0 where
@@ -65,10 +57,6 @@ pub overlooks_element : (k : ℕ) → Overlooks (copies_elements k)
 overlooks_element k = record { bodies = record { block = λ t c c'. refl; loop = λ t c c'. refl; choice = λ t c d c' d'. refl; guarded = λ t clauses c c'. refl }; nop = refl; narrow = λ i. refl; wide = λ i. refl; binary = λ w op. refl; convert = λ op. refl }
 
 -- whether some instruction passes
-pub or_none : (b : Bool) → (b || false) ≡ b
-or_none true = refl
-or_none false = refl
-
 pub or_grouped : (a b c : Bool) → ((a || b) || c) ≡ (a || (b || c))
 or_grouped true b c = refl
 or_grouped false b c = refl

@@ -28,7 +28,7 @@ use Rattle.typed_trees.specs.Typed.{body_of}
 use Rattle.meaning_new.specs.Host.{global_value}
 use Rattle.meaning_new.specs.Runs.{trace, depth}
 use Rattle.meaning_new.specs.Store.{Store}
-use Rattle.pass_law.specs.Needs.{Needs, NoMore, IsDirect, needs_of}
+use Rattle.pass_law.specs.Needs.{Needs, NoMore, IsDirect, is_computed_export, exports_computed, needs_of}
 use Rattle.pass_law.specs.Stages.{Stage, exports_name, has_load, least_sizes, needs_stage_region}
 use Rattle.pass_law.specs.ThenLawful.{and_left, and_right}
 use Rattle.pass_law.specs.Views.{view, UnlessFull, Passes}
@@ -68,7 +68,7 @@ still_not : (a a' b : Bool) → (a' ≡ true → a ≡ true) → (a && b) ≡ fa
 still_not a false b h e = refl
 still_not a true b h e = ap (λ x. x && b) (sym (h refl)) ∙ e
 
-not_true : (b : Bool) → not b ≡ true → b ≡ false
+pub not_true : (b : Bool) → not b ≡ true → b ≡ false
 not_true true h = absurd cc
 not_true false h = refl
 
@@ -79,6 +79,7 @@ pub record Kept (m o : Module) : Type 0 where
   pub fits : (s : Script) → ScriptFits m s → ScriptFits o s
   pub has : (f : Feature) → is_sign f ≡ false → has_of o f ≡ has_of m f
   pub region : needs_stage_region o ≡ needs_stage_region m
+  pub computed_exports : exports_computed o ≡ exports_computed m
   pub load : (sizes : List ℕ) → has_load o sizes ≡ has_load m sizes
   pub references : anywhere catches_by_reference o ≡ anywhere catches_by_reference m
   pub stage : Stage m → Stage o
@@ -184,6 +185,7 @@ module _ {E : Type 0} (entry : Instr → E) (layer : Layer E) (keeps : Keeps ent
     fits = fits_kept;
     has = has_kept;
     region = region_kept;
+    computed_exports = same.tested (is_computed_export m) (λ x. refl);
     load = load_kept;
     references = references_same m (new_bodies entry layer fns) exports count sights;
     stage = stage_kept;

@@ -94,7 +94,7 @@ module _ (t : Module × List TypedFn) (typed : IsTypedTree t) where
     left_of f h = sym (kept_all.has f refl) ∙ h
 
     left : NoMore (needs_of (changed m (trimmed_bodies t.1) exports count)) (needs_of m)
-    left = record { has = left_of; region = λ h. sym kept_all.region ∙ h }
+    left = record { has = left_of; region = λ h. sym kept_all.region ∙ h; computed_exports = λ h. sym kept_all.computed_exports ∙ h }
 
   same : SameExports m (untagged t.0.exports)
   same = same_untagged m typed.parts.names

@@ -26,7 +26,7 @@ is_sign features.Sign = true
 is_sign _ = false
 
 abbrev pub without_sign : Needs → Needs
-without_sign n = record { has = λ f. n.has f && not (is_sign f); region = n.region }
+without_sign n = record { has = λ f. n.has f && not (is_sign f); region = n.region; computed_exports = n.computed_exports }
 
 abbrev pub sign_plan : Plan
 sign_plan = plain takes_all without_sign any_event 1 0
@@ -37,6 +37,7 @@ sign_lawful = plain_lawful takes_all without_sign any_event 1 0 (record {
   leaves_less = λ less more h. record {
     has = λ f e. both (more.has f) (not (is_sign f)) (h.has f (and_left (less.has f) (not (is_sign f)) e)) (and_right (less.has f) (not (is_sign f)) e);
     region = h.region;
+    computed_exports = h.computed_exports;
   };
   test_regrows = λ h s grows e. refl;
   full_passes = λ h s. refl;

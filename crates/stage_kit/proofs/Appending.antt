@@ -1,5 +1,5 @@
 -- A module with more behind adds to what is there, and leaves it alone.
-use Rattle.std.proofs.Common.{◌≡◌, ℕ, zero, suc, ◌<◌, Bool, true, List, [], ◌∷◌, ◌++◌, length, Option, Some, None, refl, sym, ap, ◌∙◌, subst, arith, le_refl}
+use Rattle.std.proofs.Common.{◌≡◌, ℕ, zero, suc, ◌<◌, ◌≤◌, Bool, true, List, [], ◌∷◌, ◌++◌, length, Option, Some, None, refl, sym, ap, ◌∙◌, subst, arith, le_refl}
 use Rattle.std.specs.Prelude.{nat_lt, set, slice_get, slice_index_or, option_and_then, if◌then◌else◌}
 use Rattle.std.proofs.lemmas.Bool.{ltb-true}
 use Rattle.host_kit.specs.Offered.{func_type}
@@ -81,15 +81,16 @@ module _ {m o : Module} (h : Appended m o) (globals : ℕ) where
           ap (λ u. if same_type u (slice_get o.types t) then Some f else None) (func_types f k)
           ∙ ap (λ u. if same_type (func_type m f) u then Some f else None) (types_same t named)
 
-  -- What such a module adds: the globals behind are like Extra, and at most `spare` calls more are open.
-  abbrev pub appending : Bool → ℕ → (Place : Type 0) → (Place → Place → Type 0) → (List Val → Type 0) → Adding m o
-  appending exact spare Place Around Extra = record {
+  -- What such a module adds: the globals behind are like Extra, and at most so many calls more are open, of which some are
+  -- left wherever code runs.
+  abbrev pub appending_within : Bool → (spare more_frames : ℕ) → spare ≤ more_frames → (Place : Type 0) → (Place → Place → Type 0) → (List Val → Type 0) → Adding m o
+  appending_within exact spare more_frames within Place Around Extra = record {
     exact = exact;
     frames = 1;
-    more_frames = spare;
+    more_frames = more_frames;
     spare = spare;
     frames_some = le_refl 1;
-    spare_within = le_refl spare;
+    spare_within = within;
     Place = Place;
     Around = Around;
     names = names;
@@ -106,3 +107,7 @@ module _ {m o : Module} (h : Appended m o) (globals : ℕ) where
     keeps_forms = form_keeps names globals m;
     picks = picks;
   }
+
+  -- all of them are left
+  abbrev pub appending : Bool → ℕ → (Place : Type 0) → (Place → Place → Type 0) → (List Val → Type 0) → Adding m o
+  appending exact spare Place Around Extra = appending_within exact spare spare (le_refl spare) Place Around Extra

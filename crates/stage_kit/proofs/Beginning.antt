@@ -1,5 +1,5 @@
 -- A module with more behind begins in the same state, but for the globals behind, and places the same segments.
-use Rattle.std.proofs.Common.{◌≡◌, ℕ, ◌+◌, Bool, true, List, [], ◌∷◌, ◌++◌, map, length, Option, Some, None, option_map, refl, sym, ap, ◌∙◌, append-nil}
+use Rattle.std.proofs.Common.{◌≡◌, ℕ, ◌+◌, ◌≤◌, le_refl, Bool, true, List, [], ◌∷◌, ◌++◌, map, length, Option, Some, None, option_map, refl, sym, ap, ◌∙◌, append-nil}
 use Rattle.std.specs.Prelude.{nat_lt, false, ◌-◌, slice_get, filter_map, count_by, option_and_then}
 use Rattle.std.specs.List.{AllByRecursion}
 use Rattle.std.proofs.lemmas.List.{append_assoc}
@@ -35,7 +35,7 @@ use Rattle.stage_kit.specs.Staged.{start_state, CodeStays, Staged}
 use Rattle.stage_kit.proofs.Lists.{IfAny}
 use Rattle.stage_kit.proofs.Moving
 use Rattle.stage_kit.proofs.Moving.{lifted}
-use Rattle.stage_kit.proofs.Appending.{named_below, index_append, appending}
+use Rattle.stage_kit.proofs.Appending.{named_below, index_append, appending, appending_within}
 use Rattle.stage_kit.proofs.NamingForms.{host_keeps}
 use Rattle.stage_kit.proofs.Starting.{placed_elem, placed_elems, placed_data, values_count, starts_named, script_keeps}
 
@@ -44,7 +44,7 @@ with_append : (gs hs : List Global) (l : List Val) → with_globals (gs ++ hs) l
 with_append [] hs l = refl
 with_append (g ∷ gs) hs l = with_append gs hs (l ++ constant l g.init ∷ [])
 
-added : (gs : List Global) (l : List Val) → with_globals gs l ≡ l ++ added_values gs l
+pub added : (gs : List Global) (l : List Val) → with_globals gs l ≡ l ++ added_values gs l
 added [] l = sym (append-nil l)
 added (g ∷ gs) l = added gs (l ++ constant l g.init ∷ []) ∙ append_assoc l (constant l g.init ∷ []) (added_values gs (l ++ constant l g.init ∷ []))
 
@@ -182,9 +182,9 @@ module _ {m o : Module} (p : Appended m o) (a : Alike m o) (globals : ℕ) (h : 
       ∙ ap (λ (l : List _). record (new_store m (gs ++ extra)) { tables = filter_map (λ i. table_import i.desc) m.imports ++ l }) (tables_same m globals h extra gs m.tables count h.entries)
       ∙ ap (λ (l : List (List Val)). record (more_store extra (new_store m gs)) { elems = l }) (elems_same m globals h extra gs m.elems count h.items)
 
-  module _ (exact : Bool) (spare : ℕ) (Place : Type 0) (Around : Place → Place → Type 0) (Extra : List Val → Type 0) where
+  module _ (exact : Bool) (spare more_frames : ℕ) (within : spare ≤ more_frames) (Place : Type 0) (Around : Place → Place → Type 0) (Extra : List Val → Type 0) where
     abbrev A : Adding m o
-    A = appending p globals exact spare Place Around Extra
+    A = appending_within p globals exact spare more_frames within Place Around Extra
 
     -- the states in which both runs begin
     pub begins : (s : Script) → ScriptFits m s → Extra (added_values a.more_globals (all_values m s)) → Behind A (start_state m s) (start_state o s)
@@ -205,8 +205,8 @@ module _ {m o : Module} (p : Appended m o) (a : Alike m o) (globals : ℕ) (h : 
     }
 
     -- What a stage owes that only adds behind: its one layer, its bodies, and what its globals begin with.
-    pub staged : {X : Type 0} (step : Step X Instr-F Instr) (seen : Place → X) → AllByRecursion (λ e. export_named (names_of m globals) e.desc ≡ true) m.exports → ((s : Script) → ScriptFits m s → Extra (added_values a.more_globals (all_values m s))) → OwesLayers (adds_to A) (language m) (language o) step seen (CodeNamed m (names_of m globals)) → ((x : ℕ) → (names_of m globals).func x ≡ true → nat_lt x (imported_funcs m) ≡ false → CodeStays A step seen (CodeNamed m (names_of m globals)) (slice_get m.codes (x - imported_funcs m)) (slice_get o.codes (x - imported_funcs m))) → Staged A step seen (CodeNamed m (names_of m globals))
-    staged step seen named extra layers code = record {
+    pub staged_within : {X : Type 0} (step : Step X Instr-F Instr) (seen : Place → X) → AllByRecursion (λ e. export_named (names_of m globals) e.desc ≡ true) m.exports → ((s : Script) → ScriptFits m s → Extra (added_values a.more_globals (all_values m s))) → OwesLayers (adds_to A) (language m) (language o) step seen (CodeNamed m (names_of m globals)) → ((x : ℕ) → (names_of m globals).func x ≡ true → nat_lt x (imported_funcs m) ≡ false → CodeStays A step seen (CodeNamed m (names_of m globals)) (slice_get m.codes (x - imported_funcs m)) (slice_get o.codes (x - imported_funcs m))) → Staged A step seen (CodeNamed m (names_of m globals))
+    staged_within step seen named extra layers code = record {
       offers = offers named;
       layers = layers;
       imported = ap (λ (l : List Import). count_by (λ i. is_func i.desc) l) a.imports;
@@ -216,3 +216,7 @@ module _ {m o : Module} (p : Appended m o) (a : Alike m o) (globals : ℕ) (h : 
       begins = λ s fit. begins s fit (extra s fit);
       safe = starts_named m (names_of m globals) globals h;
     }
+
+  -- the same where all further calls are left wherever code runs
+  pub staged : (exact : Bool) (spare : ℕ) (Place : Type 0) (Around : Place → Place → Type 0) (Extra : List Val → Type 0) {X : Type 0} (step : Step X Instr-F Instr) (seen : Place → X) → AllByRecursion (λ e. export_named (names_of m globals) e.desc ≡ true) m.exports → ((s : Script) → ScriptFits m s → Extra (added_values a.more_globals (all_values m s))) → OwesLayers (adds_to (appending p globals exact spare Place Around Extra)) (language m) (language o) step seen (CodeNamed m (names_of m globals)) → ((x : ℕ) → (names_of m globals).func x ≡ true → nat_lt x (imported_funcs m) ≡ false → CodeStays (appending p globals exact spare Place Around Extra) step seen (CodeNamed m (names_of m globals)) (slice_get m.codes (x - imported_funcs m)) (slice_get o.codes (x - imported_funcs m))) → Staged (appending p globals exact spare Place Around Extra) step seen (CodeNamed m (names_of m globals))
+  staged exact spare Place Around Extra step seen named extra layers code = staged_within exact spare spare (le_refl spare) Place Around Extra step seen named extra layers code

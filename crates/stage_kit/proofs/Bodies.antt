@@ -32,7 +32,7 @@ use Rattle.stage_kit.specs.Staged.{BodyStays, CodeStays}
 use Rattle.stage_kit.proofs.Erased.{OwesStep, code_same}
 
 -- how many functions are imported
-imports_counted : (is : List Import) → length (filter_map (λ i. func_import i.desc) is) ≡ count_by (λ i. is_func i.desc) is
+pub imports_counted : (is : List Import) → length (filter_map (λ i. func_import i.desc) is) ≡ count_by (λ i. is_func i.desc) is
 imports_counted = is_count_by (λ is. length (filter_map (λ (i : Import). func_import i.desc) is)) (λ i. is_func i.desc) refl (λ i is. one i.desc (filter_map (λ j. func_import j.desc) is))
   where
     one : (d : ImportDesc) (ys : List ℕ) → length (cons_option (func_import d) ys) ≡ cond (is_func d) (1 + length ys) (length ys)
@@ -43,19 +43,22 @@ imports_counted = is_count_by (λ is. length (filter_map (λ (i : Import). func_
     one (imports.Tag t) ys = refl
 
 -- a function that is there and not imported has a body
-pub body_within : (p : Module × List TypedFn) (globals x : ℕ) → Agrees (module_of p) → (names_of (module_of p) globals).func x ≡ true → nat_lt x (imported_funcs (module_of p)) ≡ false → x - imported_funcs (module_of p) < length p.1
-body_within p globals x agrees named own =
-    let m = module_of p in
+pub body_there : (m : Module) (globals x : ℕ) → length m.funcs ≡ length m.codes → (names_of m globals).func x ≡ true → nat_lt x (imported_funcs m) ≡ false → x - imported_funcs m < length m.codes
+body_there m globals x bodies named own =
     let there : x < length (func_indices m) = ltb-true x (length (func_indices m)) named in
     let behind : imported_funcs m ≤ x = ltb-false x (imported_funcs m) own in
-    let count : length (func_indices m) ≡ imported_funcs m + length p.1 =
+    let count : length (func_indices m) ≡ imported_funcs m + length m.codes =
     length-append (filter_map (λ i. func_import i.desc) m.imports) m.funcs
     ∙ ap (λ n. n + length m.funcs) (imports_counted m.imports)
-    ∙ ap (λ n. imported_funcs m + n) (agrees.bodies ∙ length-map p.1 body_of) in
-    within x (length (func_indices m)) (imported_funcs m) (length p.1) there behind count
+    ∙ ap (λ n. imported_funcs m + n) bodies in
+    within x (length (func_indices m)) (imported_funcs m) (length m.codes) there behind count
   where
     within : (x all first rest : ℕ) → x < all → first ≤ x → all ≡ first + rest → x - first < rest
     within x all first rest there behind count = omega arith
+
+pub body_within : (p : Module × List TypedFn) (globals x : ℕ) → Agrees (module_of p) → (names_of (module_of p) globals).func x ≡ true → nat_lt x (imported_funcs (module_of p)) ≡ false → x - imported_funcs (module_of p) < length p.1
+body_within p globals x agrees named own =
+    subst (λ n. x - imported_funcs (module_of p) < n) (length-map p.1 body_of) (body_there (module_of p) globals x agrees.bodies named own)
 
 -- locals begin with values that refer to no function
 default_named : (names : Names) (globals : ℕ) (t : Ty) → ValNamed names globals (default t)

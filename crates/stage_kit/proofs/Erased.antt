@@ -17,13 +17,8 @@ use Rattle.rewriting_kit.specs.Rewrites.{Layer, all_at, rewrite_layer, rewritten
 use Rattle.simulation_kit.specs.Rewriting.{Step, body_at, rewrite}
 use Rattle.meaning_new.specs.Language.{language}
 use Rattle.node_meaning.specs.Nodes.{over_twice, induct}
+pub use Rattle.rewriting_kit.proofs.Trees.{erase_made}
 use Rattle.stage_kit.specs.Kept.{with_code, keep}
-
--- the code that a node stands for which has these parts
-pub erase_made : (head : Instr) (takes gives : List Ty) (first second : List Node) → erase (node_of head takes gives first second) ≡ roll-Instr (with_bodies (out-Instr head) (erased first) (erased second))
-erase_made head takes gives [] [] = fold-roll-Node Instr erase_layer (record { head = head; types = (takes, gives); bodies = held [] [] })
-erase_made head takes gives [] (n ∷ second) = fold-roll-Node Instr erase_layer (record { head = head; types = (takes, gives); bodies = held [] (n ∷ second) })
-erase_made head takes gives (n ∷ first) second = fold-roll-Node Instr erase_layer (record { head = head; types = (takes, gives); bodies = held (n ∷ first) second })
 
 -- the instruction of a layer whose bodies, of this code, are rewritten
 abbrev pub parts : {X : Type 0} → (Instr → X → List Instr) → Instr → List Instr → List Instr → Instr-F (X → List Instr)

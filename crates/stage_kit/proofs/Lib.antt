@@ -11,3 +11,8 @@ pub mod Starting
 pub mod Beginning
 pub mod Erased
 pub mod Bodies
+pub mod Placing
+pub mod Unchanged
+pub mod Prepared
+pub mod TypedCode
+pub mod TypedModules

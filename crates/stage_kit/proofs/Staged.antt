@@ -43,19 +43,19 @@ use Rattle.stage_kit.proofs.Hosts.{host_like}
 use Rattle.stage_kit.proofs.Scripts.{script_like}
 
 -- a trace beside itself
-twin : Mark → Twin
+pub twin : Mark → Twin
 twin (Shows e) = Heard e
 twin (Grown ok sizes) = Grew ok sizes sizes
 twin Captured = Caught
 
-outer-twins : (marks : List Mark) → map outer (map twin marks) ≡ marks
+pub outer-twins : (marks : List Mark) → map outer (map twin marks) ≡ marks
 unfolding twin
 outer-twins [] = refl
 outer-twins (Shows e ∷ marks) = ap (λ l. Shows e ∷ l) (outer-twins marks)
 outer-twins (Grown ok sizes ∷ marks) = ap (λ l. Grown ok sizes ∷ l) (outer-twins marks)
 outer-twins (Captured ∷ marks) = ap (λ l. Captured ∷ l) (outer-twins marks)
 
-inner-twins : (marks : List Mark) → map (inner (λ e. e)) (map twin marks) ≡ marks
+pub inner-twins : (marks : List Mark) → map (inner (λ e. e)) (map twin marks) ≡ marks
 unfolding twin
 inner-twins [] = refl
 inner-twins (Shows e ∷ marks) = ap (λ l. Shows e ∷ l) (inner-twins marks)
@@ -66,7 +66,7 @@ always : {X : Type 0} (e : Event) → NotFull e → UnlessFull e X → X
 always Full n h = absurd n
 always e n h = h
 
-twins_fit : (test : Event → Bool) (K K' : List ℕ → Bool) → ((sizes : List ℕ) → K sizes ≡ true → K' sizes ≡ true) → (marks : List Mark) → NoFull (view marks) → Passes test (λ e. e) (view marks) → AllByRecursion (IsFit test K K') (map twin marks)
+pub twins_fit : (test : Event → Bool) (K K' : List ℕ → Bool) → ((sizes : List ℕ) → K sizes ≡ true → K' sizes ≡ true) → (marks : List Mark) → NoFull (view marks) → Passes test (λ e. e) (view marks) → AllByRecursion (IsFit test K K') (map twin marks)
 unfolding twin
 twins_fit test K K' load [] n h = tt
 twins_fit test K K' load (Shows e ∷ marks) n h = (h.0, twins_fit test K K' load marks n.1 (always e n.0 h.1))
@@ -108,7 +108,7 @@ module _ {m o : Module} (A : Adding m o) {X : Type 0} (step : Step X Instr-F Ins
       by None = tt
       by (Some t) = typed_like x named t
 
-  callees : OwesCallees (added A) (language m) (language o) step seen Fits
+  pub callees : OwesCallees (added A) (language m) (language o) step seen Fits
   callees = callee_like
 
   -- The theorem: where the input stops within n turns, the output does, with the same state but for the globals behind.

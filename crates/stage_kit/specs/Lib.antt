@@ -4,3 +4,4 @@ pub mod Hosting
 pub mod Staged
 pub mod Naming
 pub mod Appended
+pub mod Prepared

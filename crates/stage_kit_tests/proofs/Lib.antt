@@ -1,3 +1,4 @@
 pub mod Asking
 pub mod Nodes
 pub mod Shifts
+pub mod Typed

@@ -17,7 +17,7 @@ use Rattle.rewriting_kit.specs.Rewrites.{node_of}
 use Rattle.simulation_kit.specs.Rewriting.{Step}
 use Rattle.pass_plain.specs.Bodies.{no_entry}
 use Rattle.pass_plain.specs.Shifts.{constant, extend, shifted, by_shifts}
-use Rattle.pass_plain.proofs.ShiftsRun.{erase_pure}
+use Rattle.pass_plain.proofs.Operators.{erase_pure}
 use Rattle.stage_kit.specs.Kept.{keep}
 use Rattle.stage_kit.proofs.Erased.{OwesStep, kept_node}
 

@@ -11,5 +11,5 @@ returns c =
     let captures = c.args.settings.now.captures in
     record {
       law = of_copy (λ o. Law loose_plan m (module_of o) captures) c.args.m.now c.copy.result
-          (copied everything 2 3 more m captures (record { has = λ f e. refl; region = λ e. refl }) c.requires.stage) c.copy.ensures;
+          (copied everything 2 3 more m captures (record { has = λ f e. refl; region = λ e. refl; computed_exports = λ e. refl }) c.requires.stage) c.copy.ensures;
     }

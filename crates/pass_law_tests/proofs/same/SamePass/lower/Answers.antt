@@ -10,5 +10,5 @@ returns c =
     let captures = c.args.settings.now.captures in
     record {
       law = of_copy (λ o. Law same_plan m (module_of o) captures) c.args.m.now c.copy.result
-          (copied (λ n. n) 1 0 once m captures (record { has = λ f e. e; region = λ e. e }) c.requires.stage) c.copy.ensures;
+          (copied (λ n. n) 1 0 once m captures (record { has = λ f e. e; region = λ e. e; computed_exports = λ e. e }) c.requires.stage) c.copy.ensures;
     }
