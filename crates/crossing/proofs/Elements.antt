@@ -1,7 +1,7 @@
 -- Element segments: 3.0 writes one after another, and 1.0 all of them if all fit; both come to the same.
 use Rattle.std.proofs.lemmas.List.{length-map}
 use Rattle.std.proofs.Common.{◌≡◌, ◌<◌, ℕ, ◌+◌, Bool, true, false, ◌&&◌, List, [], ◌∷◌, ◌++◌, map, set, length, Option, Some, None, option_map, refl, sym, ap, ◌∙◌, subst, if◌then◌else◌, arith, append_assoc}
-use Rattle.std.specs.Prelude.{slice_get, slice_index_or, nat_le, option_and_then}
+use Rattle.std.specs.Prelude.{flat_map, slice_get, slice_index_or, nat_le, option_and_then}
 use Rattle.std.specs.List.{AllByRecursion, list_all}
 use Rattle.std.proofs.lemmas.List.{get_or-set_other, length-append}
 use Rattle.std.proofs.lemmas.List.{map-set}
@@ -23,9 +23,9 @@ use Rattle.meaning_new.specs.Instances as new
 use Rattle.meaning_core1.specs.Store.{Store1, number1}
 use Rattle.meaning_core1.specs.Instances as old
 use Rattle.crossing.specs.Code.{cross_code}
-use Rattle.crossing.specs.Modules.{referred, cross_item, cross_element, place_of, offset_of}
+use Rattle.crossing.specs.Modules.{referred, cross_item, cross_active, cross_element}
 use Rattle.crossing.specs.States.{cross_table, cross_store}
-use Rattle.crossing.specs.Crossing.{ConstantCrosses, is_reference, is_item, ModeCrosses, ElementCrosses}
+use Rattle.crossing.specs.Crossing.{ConstantCrosses, is_reference, is_item, ItemsCross, ElementCrosses}
 use Rattle.crossing.proofs.Constants.{constant-cross}
 use Rattle.crossing.proofs.Images.{crossed, number-cross}
 use Rattle.crossing.proofs.Ranges.{whole_range, length-overwritten, map-overwritten, at_place, sizes_set}
@@ -71,9 +71,9 @@ placed i x at entries s n e (Some t) =
     ap (λ r. new.then (option_and_then (λ es. option_map (λ after. ([], after)) (put_entries x t at es s)) r) (λ after. new.store_of (elem_drop i [] after))) (whole_range entries n e)
     ∙ drops i x t s (write_range at entries t.entries)
 
--- a segment in 1.0
-abbrev element_as : Mode → List (List Instr) → Element1
-element_as mode codes = record { table = place_of mode; offset = cross_code (offset_of mode); items = map cross_item codes }
+-- an active segment in 1.0
+abbrev element_as : ℕ → List Instr → List (List Instr) → Element1
+element_as x offset codes = record { table = x; offset = cross_code offset; items = map cross_item codes }
 
 -- what one segment comes to in both
 record Step (i : ℕ) (s : Store) (e : Element1) (s' : Store) : Type 0 where
@@ -95,7 +95,7 @@ module _ (k i x : ℕ) (offset : List Instr) (constant : ConstantCrosses k offse
   entries = map (new.constant globals) codes
 
   abbrev e1 : Element1
-  e1 = element_as (Active x offset) codes
+  e1 = element_as x offset codes
 
   at-cross : old.offset_of (cross_store s) (cross_code offset) ≡ at
   at-cross = ap number1 (constant-cross k offset constant s.globals) ∙ number-cross (new.constant s.globals offset)
@@ -137,14 +137,12 @@ module _ (k i x : ℕ) (offset : List Instr) (constant : ConstantCrosses k offse
   at_table None e = table_at None e
   at_table (Some t) e = writes t e (nat_le (at + length entries) (length t.entries)) refl
 
-step : (k i : ℕ) (e : Element) (mode : Mode) → ModeCrosses k mode → AllByRecursion (λ code. is_item code ≡ true) e.items → (globals : List Val) (s : Store) → segment_entries i s ≡ map (new.constant globals) e.items → StepAgrees i s (element_as mode e.items) (new.place_elem i e mode s)
-step k i e (Active x offset) c r globals s h =
-    subst (StepAgrees i s (element_as (Active x offset) e.items))
+step : (k i : ℕ) (e : Element) (x : ℕ) (offset : List Instr) → ConstantCrosses k offset → AllByRecursion (λ code. is_item code ≡ true) e.items → (globals : List Val) (s : Store) → segment_entries i s ≡ map (new.constant globals) e.items → StepAgrees i s (element_as x offset e.items) (new.place_elem i e (Active x offset) s)
+step k i e x offset c r globals s h =
+    subst (StepAgrees i s (element_as x offset e.items))
     (sym (ap (λ (es : List Val). placed_at i x (number (new.constant s.globals offset)) es s (length e.items) (slice_get s.tables x)) h
     ∙ placed i x (number (new.constant s.globals offset)) (map (new.constant globals) e.items) s (length e.items) (sym (length-map e.items (new.constant globals))) (slice_get s.tables x)))
     (at_table k i x offset c e.items r globals s (slice_get s.tables x) refl)
-step k i e Passive c r globals s h = absurd c
-step k i e Declarative c r globals s h = absurd c
 
 -- whether segments fit does not change
 fits_same : (s s' : Store1) → s'.globals ≡ s.globals → ((y : ℕ) → option_map length (slice_get s'.tables y) ≡ option_map length (slice_get s.tables y)) → (es : List Element1) → list_all (old.element_fits s') es ≡ list_all (old.element_fits s) es
@@ -192,20 +190,32 @@ agrees_then s t b w None a h = h
 agrees_then s t b w (Some u) a h = (h.0, record { same = h.1.same; others = others_then s t u a h.1.others })
 
 module _ (k : ℕ) (globals : List Val) where
-  abbrev pub ElementsAgree : List Element → ℕ → Store → Type 0
-  ElementsAgree es i s = Agrees s (list_all (old.element_fits (cross_store s)) (map cross_element es)) (old.write_elements (map cross_element es) (cross_store s)) (new.place_elems i es s)
+  abbrev Behind : List Element1 → List Element → ℕ → Store → Option Store → Type 0
+  Behind first es i s o = Agrees s (list_all (old.element_fits (cross_store s)) (first ++ flat_map cross_element es)) (old.write_elements (first ++ flat_map cross_element es) (cross_store s)) (option_and_then (new.place_elems (i + 1) es) o)
 
-  elements_then : (e : Element) (es : List Element) (i : ℕ) (s : Store) → ((t : Store) → Ready globals (i + 1) es t → ElementsAgree es (i + 1) t) → Ready globals (i + 1) es s → (o : Option Store) → StepAgrees i s (cross_element e) o →
-      Agrees s (old.element_fits (cross_store s) (cross_element e) && list_all (old.element_fits (cross_store s)) (map cross_element es)) (old.write_elements (map cross_element es) (old.write_element (cross_element e) (cross_store s))) (option_and_then (new.place_elems (i + 1) es) o)
-  elements_then e es i s more r None h = ap (λ b. b && list_all (old.element_fits (cross_store s)) (map cross_element es)) h
+  abbrev pub ElementsAgree : List Element → ℕ → Store → Type 0
+  ElementsAgree es i s = Agrees s (list_all (old.element_fits (cross_store s)) (flat_map cross_element es)) (old.write_elements (flat_map cross_element es) (cross_store s)) (new.place_elems i es s)
+
+  -- an active segment, and those behind it
+  elements_then : (e : Element1) (es : List Element) (i : ℕ) (s : Store) → ((t : Store) → Ready globals (i + 1) es t → ElementsAgree es (i + 1) t) → Ready globals (i + 1) es s → (o : Option Store) → StepAgrees i s e o → Behind (e ∷ []) es i s o
+  elements_then e es i s more r None h = ap (λ b. b && list_all (old.element_fits (cross_store s)) (flat_map cross_element es)) h
   elements_then e es i s more r (Some t) h =
       let lt : i < i + 1 = omega arith in
-      subst (λ b. Agrees s b (old.write_elements (map cross_element es) (old.write_element (cross_element e) (cross_store s))) (new.place_elems (i + 1) es t))
-      (sym (ap (λ b. b && list_all (old.element_fits (cross_store s)) (map cross_element es)) h.fits ∙ sym (fits_same (cross_store s) (cross_store t) (ap crossed h.others.globals) h.sizes (map cross_element es))))
-      (subst (λ (w : Store1). Agrees s (list_all (old.element_fits (cross_store t)) (map cross_element es)) (old.write_elements (map cross_element es) w) (new.place_elems (i + 1) es t)) (sym h.same)
-      (agrees_then s t (list_all (old.element_fits (cross_store t)) (map cross_element es)) (old.write_elements (map cross_element es) (cross_store t)) (new.place_elems (i + 1) es t) h.others (more t (ready_set globals i (i + 1) es s t lt h.elems r))))
+      subst (λ b. Agrees s b (old.write_elements (flat_map cross_element es) (old.write_element e (cross_store s))) (new.place_elems (i + 1) es t))
+      (sym (ap (λ b. b && list_all (old.element_fits (cross_store s)) (flat_map cross_element es)) h.fits ∙ sym (fits_same (cross_store s) (cross_store t) (ap crossed h.others.globals) h.sizes (flat_map cross_element es))))
+      (subst (λ (w : Store1). Agrees s (list_all (old.element_fits (cross_store t)) (flat_map cross_element es)) (old.write_elements (flat_map cross_element es) w) (new.place_elems (i + 1) es t)) (sym h.same)
+      (agrees_then s t (list_all (old.element_fits (cross_store t)) (flat_map cross_element es)) (old.write_elements (flat_map cross_element es) (cross_store t)) (new.place_elems (i + 1) es t) h.others (more t (ready_set globals i (i + 1) es s t lt h.elems r))))
+
+  -- a segment, which is written where it is active
+  by_mode : (e : Element) (es : List Element) (i : ℕ) (s : Store) → ((t : Store) → Ready globals (i + 1) es t → ElementsAgree es (i + 1) t) → segment_entries i s ≡ map (new.constant globals) e.items → Ready globals (i + 1) es s → (mode : Mode) → ItemsCross k e.items mode → Behind (cross_active e.items mode) es i s (new.place_elem i e mode s)
+  by_mode e es i s more q r (Active x offset) c =
+      elements_then (element_as x offset e.items) es i s more r (new.place_elem i e (Active x offset) s) (step k i e x offset c.0 c.1 globals s q)
+  by_mode e es i s more q r Passive c = more s r
+  by_mode e es i s more q r Declarative c =
+      let lt : i < i + 1 = omega arith in
+      let t : Store = record s { elems = set s.elems i [] } in
+      agrees_then s t (list_all (old.element_fits (cross_store s)) (flat_map cross_element es)) (old.write_elements (flat_map cross_element es) (cross_store s)) (new.place_elems (i + 1) es t) (record { globals = refl; memories = refl; datas = refl; exceptions = refl }) (more t (ready_set globals i (i + 1) es s t lt refl r))
 
   pub elements_agree : (es : List Element) (i : ℕ) (s : Store) → AllByRecursion (ElementCrosses k) es → Ready globals i es s → ElementsAgree es i s
   elements_agree [] i s c r = (refl, record { same = refl; others = record { globals = refl; memories = refl; datas = refl; exceptions = refl } })
-  elements_agree (e ∷ es) i s c r =
-      elements_then e es i s (λ t q. elements_agree es (i + 1) t c.1 q) r.1 (new.place_elem i e e.mode s) (step k i e e.mode c.0.mode c.0.items globals s r.0)
+  elements_agree (e ∷ es) i s c r = by_mode e es i s (λ t q. elements_agree es (i + 1) t c.1 q) r.0 r.1 e.mode c.0

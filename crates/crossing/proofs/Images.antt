@@ -1,5 +1,5 @@
 -- Values, operands and the parts of a store by their images.
-use Rattle.std.proofs.Common.{◌≡◌, ℕ, zero, suc, true, false, List, [], ◌∷◌, map, slice_index_or, refl, sym, ap, ◌∙◌, subst}
+use Rattle.std.proofs.Common.{◌≡◌, ℕ, true, false, List, [], ◌∷◌, map, refl, sym, ap, ◌∙◌, subst}
 use Rattle.num_core.specs.declared.operators.Width.{Width}
 use Rattle.num_core.specs.declared.operators.Width.TheVariants.{W32, W64}
 use Rattle.evaluation_kit.specs.Leaves.{top, below}

@@ -1,6 +1,6 @@
 -- All segments of a module, and the theorem for a module whose parts all cross.
 use Rattle.std.proofs.Common.{◌≡◌, ℕ, Bool, true, false, ◌&&◌, List, [], map, length, slice_get, Option, Some, None, option_map, refl, sym, ap, ◌∙◌, subst, if◌then◌else◌}
-use Rattle.std.specs.Prelude.{option_and_then}
+use Rattle.std.specs.Prelude.{flat_map, option_and_then}
 use Rattle.std.specs.List.{AllByRecursion, list_all}
 use Rattle.host_kit.specs.declared.script.Script.{Script}
 use Rattle.wasm_ast.specs.declared.module.parts.Module.{Module}
@@ -21,13 +21,13 @@ use Rattle.crossing.proofs.Whole.{crossed_runs}
 
 module _ (m : Module) (s : Store) (plain : StoreIsPlain s) where
   abbrev elems_fit : Bool
-  elems_fit = list_all (old.element_fits (cross_store s)) (map cross_element m.elems)
+  elems_fit = list_all (old.element_fits (cross_store s)) (flat_map cross_element m.elems)
 
   abbrev datas_fit : Bool
   datas_fit = list_all (old.segment_fits (cross_store s)) (map cross_segment m.datas)
 
   abbrev after_elems : Store1
-  after_elems = old.write_elements (map cross_element m.elems) (cross_store s)
+  after_elems = old.write_elements (flat_map cross_element m.elems) (cross_store s)
 
   abbrev outcome : Bool → Bool → Store1 → Option Store1
   outcome a b w = if a && b then Some (old.write_segments (map cross_segment m.datas) w) else None

@@ -115,11 +115,15 @@ abbrev pub ModeCrosses : ℕ → Mode → Type 0
 ModeCrosses k (Active x offset) = ConstantCrosses k offset
 ModeCrosses k _ = ⊥
 
-pub record ElementCrosses (k : ℕ) (e : Element) : Type 0 where
-  pub mode : ModeCrosses k e.mode
-  pub items : AllByRecursion (λ code. is_item code ≡ true) e.items
+-- an element segment that is not active asks for nothing
+abbrev pub ItemsCross : ℕ → List (List Instr) → Mode → Type 0
+ItemsCross k codes (Active x offset) = ConstantCrosses k offset × AllByRecursion (λ code. is_item code ≡ true) codes
+ItemsCross k codes _ = Unit {0}
 
--- segments are active, and their items refer to functions
+abbrev pub ElementCrosses : ℕ → Element → Type 0
+ElementCrosses k e = ItemsCross k e.items e.mode
+
+-- items of active element segments refer to functions, and data segments are active
 pub record SegmentsCross (m : Module) : Type 0 where
   pub elems : AllByRecursion (ElementCrosses (imported_globals m)) m.elems
   pub datas : AllByRecursion (λ (d : Segment). ModeCrosses (imported_globals m) d.mode) m.datas

@@ -1,5 +1,5 @@
 -- A module of 3.0 as a module of 1.0, part by part.
-use Rattle.std.specs.Prelude.{ℕ, false, List, [], ◌∷◌, map}
+use Rattle.std.specs.Prelude.{ℕ, false, List, [], ◌∷◌, map, flat_map}
 use Rattle.wasm_ast.specs.declared.module.ty.FuncType.{FuncType}
 use Rattle.wasm_ast.specs.declared.module.ty.Limits.{Limits}
 use Rattle.wasm_ast.specs.declared.module.op.Op.TheVariants as ops
@@ -67,7 +67,7 @@ cross_export_desc (exports.Tag x) = exports1.Table x
 abbrev pub cross_export : Export → Export1
 cross_export e = record { name = e.name; desc = cross_export_desc e.desc }
 
--- segments; one that is not active is written as an active one at 0
+-- where a segment goes; of data segments one that is not active is written as an active one at 0
 abbrev pub place_of : Mode → ℕ
 place_of (Active x offset) = x
 place_of _ = 0
@@ -85,8 +85,13 @@ abbrev pub cross_item : List Instr → ℕ
 cross_item [] = 0
 cross_item (i ∷ code) = referred (out-Instr i)
 
-abbrev pub cross_element : Element → Element1
-cross_element e = record { table = place_of e.mode; offset = cross_code (offset_of e.mode); items = map cross_item e.items }
+-- an element segment that is not active is left out: no instruction of 1.0 names one
+abbrev pub cross_active : List (List Instr) → Mode → List Element1
+cross_active codes (Active x offset) = record { table = x; offset = cross_code offset; items = map cross_item codes } ∷ []
+cross_active codes _ = []
+
+abbrev pub cross_element : Element → List Element1
+cross_element e = cross_active e.items e.mode
 
 abbrev pub cross_segment : Segment → Segment1
 cross_segment d = record { memory = place_of d.mode; offset = cross_code (offset_of d.mode); bytes = d.bytes }
@@ -106,7 +111,7 @@ cross m = record {
   globals = map cross_global m.globals;
   exports = map cross_export m.exports;
   start = m.start;
-  elems = map cross_element m.elems;
+  elems = flat_map cross_element m.elems;
   codes = map cross_body m.codes;
   datas = map cross_segment m.datas;
 }

@@ -1,0 +1,17 @@
+pub mod Heads
+pub mod Gives
+pub mod Instructions
+pub mod Nodes
+pub mod Trees
+pub mod Constants
+pub mod Facts
+pub mod Spaces
+pub mod Bodies
+pub mod Segments
+pub mod Whole
+pub mod Typing
+pub mod Writing
+pub mod Arms
+pub mod SameParts
+pub mod Linking
+pub mod Shortness

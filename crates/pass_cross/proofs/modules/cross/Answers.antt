@@ -1,0 +1,12 @@
+use Rattle.std.proofs.Common.{rules}
+use Rattle.pass_cross.specs.Short.{IsShortThroughout}
+use Rattle.pass_cross.proofs.Linking.{typed_out, is_crossed}
+use Rattle.pass_cross.proofs.modules.cross.Goals as goal
+
+pub returns-then-is_short_throughout-clause-typed : goal.returns-then-is_short_throughout-clause-typed
+returns-then-is_short_throughout-clause-typed c =
+    let short : IsShortThroughout c.in_ok-out.out = search rules in
+    typed_out c.args.m.now c.tree.ensures.typed c.requires c.in_ok-out.out c.in_ok-out.ensures short
+
+pub returns-then-is_short_throughout-clause-crossed : goal.returns-then-is_short_throughout-clause-crossed
+returns-then-is_short_throughout-clause-crossed c = is_crossed c.args.m.now c.tree.ensures.typed c.requires c.in_ok-out.out c.in_ok-out.ensures

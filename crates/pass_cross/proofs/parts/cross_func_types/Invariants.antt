@@ -1,0 +1,7 @@
+use Rattle.std.proofs.Common.{◌≡◌, ◌++◌, drop, map}
+use Rattle.crossing.specs.Modules.{cross_func_type}
+use Rattle.pass_cross.proofs.parts.cross_func_types.Given as goal
+
+-- what is written so far, with what is still to come, is all
+abbrev pub invariant-loop-ty : goal.invariant-loop-ty
+invariant-loop-ty l = l.out ++ map cross_func_type (drop l.ty-index l.types) ≡ map cross_func_type l.types

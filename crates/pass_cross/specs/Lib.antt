@@ -1,0 +1,5 @@
+pub mod Short
+pub mod Contexts
+pub mod Crossable
+pub mod Code
+pub mod Crossed
