@@ -7,5 +7,6 @@ mod Moves
 mod Passing
 mod Spending
 mod Views
+pub mod Done
 pub mod Laws
 pub mod Stretching

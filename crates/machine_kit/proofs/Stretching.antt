@@ -1,7 +1,6 @@
 -- Stretches of plain instructions.
 use Rattle.std.proofs.Common.{◌≡◌, ℕ, ◌≤◌, ◌<◌, List, [], ◌∷◌, length, Bool, true, false, Option, Some, None, refl, sym, subst, ◌∙◌, arith}
 use Rattle.std.specs.Borrow.{Bor}
-use Rattle.std.specs.Option.{is_some}
 use Rattle.evaluation_kit.specs.declared.jump.Jump.{Jump}
 use Rattle.evaluation_kit.specs.Forms.{Form, Flat}
 use Rattle.machine_kit.specs.declared.frame.Frame.{Frame}
@@ -10,10 +9,10 @@ use Rattle.machine_kit.specs.declared.frame.Flow.TheVariants as flows
 use Rattle.machine_kit.specs.declared.head.Head.{Head}
 use Rattle.machine_kit.specs.declared.head.Head.TheVariants as heads
 use Rattle.machine_kit.specs.Acts.{Acts, Laws, act_of}
-use Rattle.machine_kit.specs.Heads.{HeadIs, Acted}
+use Rattle.machine_kit.specs.Heads.{HeadIs, Acted, IsForm}
 use Rattle.machine_kit.specs.Stacks.{Stack}
 use Rattle.machine_kit.specs.Machines.{Place, Moves, flow_after}
-use Rattle.machine_kit.specs.Stretches.{is_plain, IsForm, Stops, Slides, Stretch}
+use Rattle.machine_kit.specs.Stretches.{Stops, Slides, Stretch}
 use Rattle.machine_kit.proofs.Moves.{plain_moves}
 
 module _ {I V : Type 0} where
@@ -22,21 +21,6 @@ module _ {I V : Type 0} where
   standing code o l fs = record { code = code; operands = o; locals = l; frames = fs }
 
 module _ {I V S : Type 0} (acts : Acts I V S) where
-  -- a head that is not plain
-  form_by : (form : Form V S I) (head : Head I) → HeadIs form head → is_plain head ≡ false → IsForm form
-  form_by form heads.Flat e n = let no : ⊥ = cc in absurd no
-  form_by form (heads.Enclose p r body) e n = subst IsForm (sym e) tt
-  form_by form (heads.Repeat p r body) e n = subst IsForm (sym e) tt
-  form_by form (heads.Choose p r first second) e n = subst IsForm (sym e) tt
-  form_by form (heads.Guard p r body) e n = subst IsForm (sym e) tt
-  form_by form (heads.Invoke p x) e n = subst IsForm (sym e) tt
-  form_by form (heads.InvokeBy p) e n = subst IsForm (sym e) tt
-
-  -- a head that is plain
-  pub flat_by : (form : Form V S I) (head : Head I) → HeadIs form head → is_plain head ≡ true → form ≡ Flat (act_of form)
-  flat_by form heads.Flat e n = e
-  flat_by form _ e n = let no : ⊥ = cc in absurd no
-
   pub nothing_flat : (i : I) (rest : List I) → Stops acts (i ∷ rest) → HeadIs (acts.form i) heads.Flat → ⊥
   nothing_flat i rest h e = subst IsForm e h
 
@@ -62,23 +46,15 @@ module _ {I V S : Type 0} (acts : Acts I V S) where
       slides_into _ (standing (i ∷ rest.now) o' l' fs) _ s s' s'' (flows.Close (Some jump)) (subst (λ x. Slides acts (standing code o l fs) s (standing x o' l' fs) s') at h)
       (plain_moves acts laws (standing rest.now o' l' fs) i rest o'' l'' s' s'' (Some jump) flat acted)
 
-  pub stops_before : (code : List I) (i : I) (rest : List I) (head : Head I) → code ≡ i ∷ rest → HeadIs (acts.form i) head → is_plain head ≡ false → Stops acts code
-  stops_before code i rest head at e n = subst (Stops acts) (sym at) (form_by (acts.form i) head e n)
+  -- before an instruction that is not plain, with which nothing was done
+  pub stops_before : (code code' : List I) (o o' o'' l l' l'' : Stack V) (fs : List (Frame I)) (s s' s'' : S) (i : I) (rest : List I) → code' ≡ i ∷ rest → IsForm (acts.form i) → o'' ≡ o' → l'' ≡ l' → s'' ≡ s'
+      → Slides acts (standing code o l fs) s (standing code' o' l' fs) s' → Stretch acts (standing code o l fs) s None (standing code' o'' l'' fs) s''
+  stops_before code code' o o' o'' l l' l'' fs s s' s'' i rest at form same-o same-l same-s h =
+      (rw (same-o, same-l, same-s) h, subst (Stops acts) (sym at) form)
 
   pub stops_at_end : (code : List I) → length code ≡ 0 → Stops acts code
   stops_at_end [] none = tt
   stops_at_end (i ∷ code) none = absurd (omega (arith, none))
-
-  -- a plain instruction that ends by this jump, or at its end
-  pub stretch_jumps : (laws : Laws acts) (code code' : List I) (o o' o'' l l' l'' : Stack V) (fs : List (Frame I)) (s s' s'' : S) (i : I) (rest : Bor (List I)) (j : Option Jump) → code' ≡ i ∷ rest.now → acts.form i ≡ Flat (act_of (acts.form i)) → is_some j ≡ true
-      → Slides acts (standing code o l fs) s (standing code' o' l' fs) s' → Acted (act_of (acts.form i)) o' l' s' o'' l'' s'' j → Stretch acts (standing code o l fs) s j (standing rest.now o'' l'' fs) s''
-  stretch_jumps laws code code' o o' o'' l l' l'' fs s s' s'' i rest None at flat some h acted = let no : ⊥ = cc in absurd no
-  stretch_jumps laws code code' o o' o'' l l' l'' fs s s' s'' i rest (Some jump) at flat some h acted = last_jumps laws code code' o o' o'' l l' l'' fs s s' s'' i rest jump at flat h acted
-
-  pub stretch_goes : (laws : Laws acts) (code code' : List I) (o o' o'' l l' l'' : Stack V) (fs : List (Frame I)) (s s' s'' : S) (i : I) (rest : Bor (List I)) (j : Option Jump) → code' ≡ i ∷ rest.now → acts.form i ≡ Flat (act_of (acts.form i)) → is_some j ≡ false
-      → Slides acts (standing code o l fs) s (standing code' o' l' fs) s' → Acted (act_of (acts.form i)) o' l' s' o'' l'' s'' j → Slides acts (standing code o l fs) s (standing rest.now o'' l'' fs) s''
-  stretch_goes laws code code' o o' o'' l l' l'' fs s s' s'' i rest None at flat none h acted = one_more laws code code' o o' o'' l l' l'' fs s s' s'' i rest at flat h acted
-  stretch_goes laws code code' o o' o'' l l' l'' fs s s' s'' i rest (Some jump) at flat none h acted = let no : ⊥ = cc in absurd no
 
   -- the stretch before a form, a call or the end
   pub into_form : (a b c : Place I V) (s s' s'' : S) (j : Option Jump) (flow : Flow I) → j ≡ None → Stretch acts a s j b s' → Moves acts flows.Run b s' flow c s'' → Moves acts flows.Run a s flow c s''
@@ -92,3 +68,9 @@ module _ {I V S : Type 0} (acts : Acts I V S) where
   pub into_jump : (a b : Place I V) (s s' : S) (j : Option Jump) → ((j ≡ None) → ⊥) → Stretch acts a s j b s' → Moves acts flows.Run a s (flows.Close j) b s'
   into_jump a b s s' None some h = absurd (some refl)
   into_jump a b s s' (Some jump) some h = h
+
+  -- a stretch of the place where it begins
+  pub stretch_from : (code code' : List I) (o o' l l' : Stack V) (fs : List (Frame I)) (s s' : S) (jump : Option Jump) (b : Place I V) (s'' : S) → standing code' o' l' [] ≡ standing code o l [] → s' ≡ s → Stretch acts (standing code' o' l' fs) s' jump b s'' → Stretch acts (standing code o l fs) s jump b s''
+  stretch_from code code' o o' l l' fs s s' jump b s'' at same h =
+      subst (λ x. Stretch acts (standing code o l fs) x jump b s'') same
+      (subst (λ p. Stretch acts (record p { frames = fs }) s' jump b s'') at h)

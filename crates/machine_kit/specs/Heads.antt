@@ -7,6 +7,8 @@ use Rattle.evaluation_kit.specs.Forms.{Form, Flat, Enclose, Repeat, Choose, Guar
 use Rattle.machine_kit.specs.declared.head.Head.{Head}
 use Rattle.machine_kit.specs.declared.head.Head.TheVariants as heads
 use Rattle.machine_kit.specs.declared.head.Body.{Body}
+use Rattle.machine_kit.specs.declared.head.Step.{Step}
+use Rattle.machine_kit.specs.declared.head.Step.TheVariants as steps
 use Rattle.machine_kit.specs.declared.head.Target.{Target}
 use Rattle.machine_kit.specs.declared.head.Target.TheVariants as targets
 use Rattle.machine_kit.specs.Acts.{act_of, test_of, handler_of, pick_of, zeros_of, host_of, ended_by}
@@ -33,6 +35,11 @@ module _ {I V S : Type 0} where
   TargetIs callee (targets.Own body) = callee ≡ Some (Own (function_of (zeros_of callee) body))
   TargetIs callee (targets.Host p) = callee ≡ Some (Host p (host_of callee))
 
+-- an instruction is done, and ended so
+abbrev pub step_done : Option Jump → Step
+step_done None = steps.Next
+step_done (Some j) = steps.Jump j
+
 module _ {V S : Type 0} where
   -- what an instruction does to the operands and locals in use and to the state, and how it ends
   abbrev pub Acted : (Plain V S → PlainRes V S) → Stack V → Stack V → S → Stack V → Stack V → S → Option Jump → Type 0
@@ -40,6 +47,17 @@ module _ {V S : Type 0} where
       (act (record { operands = o.used; locals = l.used; state = s }) ≡ ended_by j (record { operands = o'.used; locals = l'.used; state = s' }))
       × (o'.aside ≡ o.aside)
       × (l'.aside ≡ l.aside)
+
+  -- a form that is not plain
+  abbrev pub IsForm : {I : Type 0} → Form V S I → Type 0
+  IsForm (Flat act) = ⊥
+  IsForm _ = Unit {0}
+
+  -- what became of an instruction of this form
+  abbrev pub StepIs : {I : Type 0} → Form V S I → Step → Stack V → Stack V → S → Stack V → Stack V → S → Type 0
+  StepIs form steps.Next o l s o' l' s' = (form ≡ Flat (act_of form)) × Acted (act_of form) o l s o' l' s' None
+  StepIs form (steps.Jump j) o l s o' l' s' = (form ≡ Flat (act_of form)) × Acted (act_of form) o l s o' l' s' (Some j)
+  StepIs form steps.Form o l s o' l' s' = IsForm form × (o' ≡ o) × (l' ≡ l) × (s' ≡ s)
 
   -- the same of a function of the host's, which has no locals
   abbrev pub Hosted : (Plain V S → PlainRes V S) → Stack V → S → Stack V → S → Option Jump → Type 0

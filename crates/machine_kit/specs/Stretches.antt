@@ -1,24 +1,12 @@
 -- A stretch of plain instructions.
 use Rattle.std.specs.Prelude.{◌≡◌, ℕ, ◌≤◌, Bool, true, false, List, [], ◌∷◌, Option, Some, None}
 use Rattle.evaluation_kit.specs.declared.jump.Jump.{Jump}
-use Rattle.evaluation_kit.specs.Forms.{Form, Flat}
 use Rattle.machine_kit.specs.declared.frame.Flow.TheVariants as flows
-use Rattle.machine_kit.specs.declared.head.Head.{Head}
-use Rattle.machine_kit.specs.declared.head.Head.TheVariants as heads
 use Rattle.machine_kit.specs.Acts.{Acts}
+use Rattle.machine_kit.specs.Heads.{IsForm}
 use Rattle.machine_kit.specs.Machines.{Place, Moves, means, size_of}
 
--- whether a head is that of a plain instruction
-abbrev pub is_plain : {I : Type 0} → Head I → Bool
-is_plain heads.Flat = true
-is_plain _ = false
-
 module _ {I V S : Type 0} where
-  -- a form that is not plain
-  abbrev pub IsForm : Form V S I → Type 0
-  IsForm (Flat act) = ⊥
-  IsForm _ = Unit {0}
-
   -- code at whose front no plain instruction lies
   abbrev pub Stops : Acts I V S → List I → Type 0
   Stops acts [] = Unit {0}

@@ -3,14 +3,13 @@
 ghost use Rattle.std.specs.Prelude.{◌≡◌, List, ◌∷◌, cond, IfOk, OnOk};
 ghost use Rattle.machine_kit.specs.declared.frame.Frame.{Frame};
 ghost use Rattle.machine_kit.specs.Machines.{Moves, place_of, flow_after};
-ghost use Rattle.machine_kit.specs.Stretches.{Stretch, Stops, is_plain};
+ghost use Rattle.machine_kit.specs.Stretches.{Stops};
 ghost use Rattle.machine_kit.specs.Heads.{HeadIs};
 
 use crate::frame::{Flow, Frame, open};
 use crate::head::Head;
-use crate::locals::Locals;
 use crate::machine::Machine;
-use crate::operands::Operands;
+use crate::plain::glide;
 use crate::version::Version;
 use evaluation_kit::Jump;
 use std::alloc::AllocError;
@@ -23,48 +22,6 @@ pub(crate) fn after<'a, I>(jump: Option<Jump>) -> Flow<'a, I>
         None => Flow::Run,
         Some(_) => Flow::Close(jump),
     }
-}
-
-/// Whether an instruction is plain.
-fn is_plain<'a, I>(head: &Head<'a, I>) -> bool
-    ensures { result ≡ is_plain head.now }
-{
-    match head {
-        Head::Flat => true,
-        _ => false,
-    }
-}
-
-/// Where plain instructions came to: the code behind them, and the jump by which the last one ended, if it did not end at
-/// its end.
-#[derive(Drop)]
-pub(crate) struct Ran<'a, I> {
-    pub(crate) code: &'a [I],
-    pub(crate) jump: Option<Jump>,
-}
-
-/// Does the plain instructions in front of code, up to one that jumps.
-pub(crate) fn run_plain<'a, I: Drop, V: Copy, S, P: Version<I, V, S>>(
-    version: &P,
-    start: &'a [I],
-    operands: &mut Operands<V>,
-    locals: &mut Locals<V>,
-    state: &mut S,
-) -> Result<Ran<'a, I>, AllocError>
-    ensures { IfOk result (λ ran. (frames : List (Frame I)) → Stretch (P.acts version.now) (record { code = start.now; operands = operands.old; locals = locals.old; frames = frames }) state.old ran.jump (record { code = ran.code.now; operands = operands.new; locals = locals.new; frames = frames }) state.new) }
-{
-    let mut code = start;
-    while let Some((instr, rest)) = code.split_first() {
-        if !is_plain(&version.head(instr)) {
-            return Ok(Ran { code, jump: None });
-        }
-        let jump = version.leaf(instr, operands, locals, state)?;
-        if jump.is_some() {
-            return Ok(Ran { code: rest, jump });
-        }
-        code = rest;
-    }
-    Ok(Ran { code, jump: None })
 }
 
 fn run_block<'a, I: Drop, V: Copy, S, P: Version<I, V, S>>(
@@ -242,12 +199,14 @@ pub(crate) fn exec<'a, I: Drop, V: Copy, S, P: Version<I, V, S>>(
 ) -> Result<Flow<'a, I>, AllocError>
     ensures { IfOk result (λ flow. Moves (P.acts version.now) Flow.Run (place_of machine.old) state.old flow (place_of machine.new) state.new) }
 {
-    let ran = run_plain(
+    let ran = glide(
         version,
         machine.code,
         &mut machine.operands,
         &mut machine.locals,
+        &machine.frames,
         state,
+        0,
     )?;
     machine.code = ran.code;
     match ran.jump {

@@ -1,3 +1,8 @@
+ghost use Rattle.std.specs.Prelude.{◌≡◌};
+ghost use Rattle.machine_kit.specs.Heads.{step_done};
+
+use evaluation_kit::Jump;
+
 /// The form of an instruction, with the code inside it. The first number is how many operands the code inside takes, the
 /// second how many it gives.
 #[derive(Drop)]
@@ -38,4 +43,28 @@ pub enum Target<'a, I> {
     Own(Body<'a, I>),
     /// A function of the host's, which takes so many operands.
     Host(usize),
+}
+
+/// What became of an instruction that was to be done by itself.
+#[derive(Clone, Copy)]
+pub enum Step {
+    /// It is done, and ended at its end.
+    Next,
+    /// It is done, and ended by this jump.
+    Jump(Jump),
+    /// It holds code or calls a function, and nothing is done.
+    Form,
+}
+
+impl Step {
+    /// What became of an instruction that is done, and ended so.
+    #[inline(always)]
+    pub fn done(jump: Option<Jump>) -> Step
+        ensures { result ≡ step_done jump }
+    {
+        match jump {
+            None => Step::Next,
+            Some(jump) => Step::Jump(jump),
+        }
+    }
 }

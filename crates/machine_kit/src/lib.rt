@@ -15,12 +15,13 @@ mod locals;
 mod machine;
 mod moving;
 mod operands;
+mod plain;
 mod steps;
 mod tasks;
 mod turns;
 mod version;
 
-pub use head::{Body, Head, Target};
+pub use head::{Body, Head, Step, Target};
 pub use host::{Begun, Host};
 pub use locals::Locals;
 pub use operands::Operands;

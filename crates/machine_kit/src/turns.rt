@@ -5,10 +5,11 @@ ghost use Rattle.machine_kit.specs.Acts.{zeros_of};
 ghost use Rattle.machine_kit.specs.Machines.{place_of, moving, flow_after};
 ghost use Rattle.machine_kit.specs.Turning.{Turned, Spent, Came, IsPass, over, loop_code, passed_flow, passed_place, entered_place};
 
-use crate::exec::{after, run_plain};
+use crate::exec::after;
 use crate::frame::{Flow, Frame, open};
 use crate::head::Body;
 use crate::machine::Machine;
+use crate::plain::glide;
 use crate::steps::advance;
 use crate::version::Version;
 use evaluation_kit::Jump;
@@ -95,70 +96,6 @@ fn take_turn<'a, I: Drop, V: Copy, S, P: Version<I, V, S>>(
     }
 }
 
-/// A pass of the innermost loop: how many operands it takes, and its code.
-#[derive(Drop)]
-struct NextPass<'a, I> {
-    takes: usize,
-    code: &'a [I],
-}
-
-/// The pass to which a jump leads, where it goes to the innermost form and that is a loop.
-fn next_pass<'a, I>(jump: Option<Jump>, frames: &Vec<Frame<'a, I>>) -> Option<NextPass<'a, I>>
-    ensures { MatchOption result (Unit {0}) (λ pass. (jump ≡ Some (Jump.Branch 0)) × IsPass pass.takes pass.code.now (reverse frames.now.items)) }
-{
-    match jump {
-        Some(Jump::Branch(0)) => match frames.last() {
-            Some(Frame::Loop(takes, _, _, body, _)) => Some(NextPass {
-                takes: *takes,
-                code: body,
-            }),
-            _ => None,
-        },
-        _ => None,
-    }
-}
-
-/// How far a run went: how many turns it used, and the jump by which its last instruction ended, if it did not end at its
-/// end.
-#[derive(Clone, Copy)]
-struct Glided {
-    used: u64,
-    jump: Option<Jump>,
-}
-
-/// Runs plain instructions and passes of the innermost loop, within so many turns. Here most of the time of a run goes.
-fn glide<'a, I: Drop, V: Copy, S, P: Version<I, V, S>>(
-    version: &P,
-    machine: &mut Machine<'a, I, V>,
-    state: &mut S,
-    turns: u64,
-) -> Result<Glided, AllocError>
-    ensures { IfOk result (λ glided. (glided.used ≤ turns) × Spent (P.acts version.now) Flow.Run (place_of machine.old) state.old turns glided.used (flow_after glided.jump) (place_of machine.new) state.new) }
-{
-    for used in 0..turns {
-        let ran = run_plain(
-            version,
-            machine.code,
-            &mut machine.operands,
-            &mut machine.locals,
-            state,
-        )?;
-        machine.code = ran.code;
-        let Some(pass) = next_pass(ran.jump, &machine.frames) else {
-            return Ok(Glided {
-                used,
-                jump: ran.jump,
-            });
-        };
-        machine.operands.keep(pass.takes);
-        machine.code = pass.code;
-    }
-    Ok(Glided {
-        used: turns,
-        jump: None,
-    })
-}
-
 /// Where a run stands: how many turns it used, and what it is about to do.
 #[derive(Drop)]
 struct Standing<'a, I> {
@@ -179,7 +116,16 @@ fn go_on<'a, I: Drop, V: Copy, S, P: Version<I, V, S>>(
 {
     match flow {
         Flow::Run => {
-            let glided = glide(version, machine, state, turns)?;
+            let glided = glide(
+                version,
+                machine.code,
+                &mut machine.operands,
+                &mut machine.locals,
+                &machine.frames,
+                state,
+                turns,
+            )?;
+            machine.code = glided.code;
             let flow = advance(version, after(glided.jump), machine, state)?;
             Ok(Standing {
                 used: glided.used,

@@ -1,8 +1,8 @@
 ghost use Rattle.std.specs.Prelude.{◌≡◌, ◌++◌, IfOk, OnOk};
-ghost use Rattle.machine_kit.specs.Acts.{Acts, Laws, act_of, test_of, handler_of, pick_of, zeros_of, host_of};
-ghost use Rattle.machine_kit.specs.Heads.{HeadIs, TargetIs, Acted, Hosted, Handled};
+ghost use Rattle.machine_kit.specs.Acts.{Acts, Laws, test_of, handler_of, pick_of, zeros_of, host_of};
+ghost use Rattle.machine_kit.specs.Heads.{HeadIs, TargetIs, StepIs, Hosted, Handled};
 
-use crate::head::{Head, Target};
+use crate::head::{Head, Step, Target};
 use crate::locals::Locals;
 use crate::operands::Operands;
 use evaluation_kit::Jump;
@@ -18,15 +18,15 @@ pub trait Version<I, V, S> {
     fn head<'a>(&self, instr: &'a I) -> Head<'a, I>
         ensures { HeadIs ((acts self.now).form instr.now) result };
 
-    /// Does a plain instruction. The answer is the jump by which it ends, or none where it ends at its end.
+    /// Does an instruction, where it neither holds code nor calls a function.
     fn leaf(
         &self,
         instr: &I,
         operands: &mut Operands<V>,
         locals: &mut Locals<V>,
         state: &mut S,
-    ) -> Result<Option<Jump>, AllocError>
-        ensures { IfOk result (λ jump. Acted (act_of ((acts self.now).form instr.now)) operands.old locals.old state.old operands.new locals.new state.new jump) };
+    ) -> Result<Step, AllocError>
+        ensures { IfOk result (λ step. StepIs ((acts self.now).form instr.now) step operands.old locals.old state.old operands.new locals.new state.new) };
 
     /// Whether the condition of a choice holds.
     fn test(&self, instr: &I, operands: &Operands<V>) -> bool

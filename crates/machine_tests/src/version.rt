@@ -9,7 +9,7 @@ ghost use Rattle.machine_tests.specs.Small.{small, down};
 
 use crate::op::{Op, Program};
 use evaluation_kit::Jump;
-use machine_kit::{Body, Head, Locals, Operands, Target, Version};
+use machine_kit::{Body, Head, Locals, Operands, Step, Target, Version};
 use std::alloc::AllocError;
 
 impl Version<Op, u64, u64> for Program {
@@ -36,39 +36,39 @@ impl Version<Op, u64, u64> for Program {
         operands: &mut Operands<u64>,
         locals: &mut Locals<u64>,
         _state: &mut u64,
-    ) -> Result<Option<Jump>, AllocError> {
+    ) -> Result<Step, AllocError> {
         match instr {
             Op::Const(value) => {
                 operands.push(*value)?;
-                Ok(None)
+                Ok(Step::Next)
             }
             Op::Get(index) => {
                 operands.push(local(locals, *index))?;
-                Ok(None)
+                Ok(Step::Next)
             }
             Op::Set(index) => {
                 let value = operands.peek(0).unwrap_or(0);
                 operands.drop_top(1);
                 locals.set(*index as usize, value);
-                Ok(None)
+                Ok(Step::Next)
             }
-            Op::Down => down(operands),
-            Op::Trap => Ok(Some(Jump::Trap)),
-            Op::Br(label) => Ok(Some(Jump::Branch(*label))),
+            Op::Down => Ok(Step::done(down(operands)?)),
+            Op::Trap => Ok(Step::Jump(Jump::Trap)),
+            Op::Br(label) => Ok(Step::Jump(Jump::Branch(*label))),
             Op::BrIf(label) => {
                 let holds = operands.peek(0).unwrap_or(0) > 0;
                 operands.drop_top(1);
                 Ok(if holds {
-                    Some(Jump::Branch(*label))
+                    Step::Jump(Jump::Branch(*label))
                 } else {
-                    None
+                    Step::Next
                 })
             }
-            Op::Return => Ok(Some(Jump::Return)),
-            Op::Throw(exception) => Ok(Some(Jump::Throw(*exception))),
-            Op::Tail(func) => Ok(Some(Jump::TailCall(*func))),
-            Op::Block(_, _, _) | Op::Loop(_, _, _) | Op::If(_, _, _, _) => Ok(None),
-            Op::Try(_, _, _, _) | Op::Call(_, _) | Op::CallBy(_) => Ok(None),
+            Op::Return => Ok(Step::Jump(Jump::Return)),
+            Op::Throw(exception) => Ok(Step::Jump(Jump::Throw(*exception))),
+            Op::Tail(func) => Ok(Step::Jump(Jump::TailCall(*func))),
+            Op::Block(_, _, _) | Op::Loop(_, _, _) | Op::If(_, _, _, _) => Ok(Step::Form),
+            Op::Try(_, _, _, _) | Op::Call(_, _) | Op::CallBy(_) => Ok(Step::Form),
         }
     }
 

@@ -29,12 +29,18 @@ Ends act o l s o' l' s' j =
     (act (record { operands = o.used; locals = l; state = s }) ≡ ended_by j (record { operands = o'.used; locals = l'; state = s' }))
     × (o'.aside ≡ o.aside)
 
--- instructions on locals, on the store, and of control that are plain
+-- instructions on locals, on operands of any type, on the store, and of control that are plain
 abbrev pub IsOnLocals : Instr1-F Instr1 → Type 0
 IsOnLocals (Instr1-F.LocalGet x) = Unit {0}
 IsOnLocals (Instr1-F.LocalSet x) = Unit {0}
 IsOnLocals (Instr1-F.LocalTee x) = Unit {0}
 IsOnLocals _ = ⊥
+
+abbrev pub IsParametric : Instr1-F Instr1 → Type 0
+IsParametric Instr1-F.Drop = Unit {0}
+IsParametric Instr1-F.Select = Unit {0}
+IsParametric Instr1-F.Nop = Unit {0}
+IsParametric _ = ⊥
 
 abbrev pub IsOnStore : Instr1-F Instr1 → Type 0
 IsOnStore (Instr1-F.GlobalGet x) = Unit {0}

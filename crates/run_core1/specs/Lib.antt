@@ -6,3 +6,4 @@ pub mod Constants
 pub mod Items
 pub mod Leaves
 pub mod Tasks
+pub mod Slots

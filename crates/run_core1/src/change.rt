@@ -1,5 +1,5 @@
+use crate::slot::Slot;
 use evaluation_kit::Jump;
-use meaning_core1::Val1;
 
 /// What a plain instruction does to the operands, where it ends, and how.
 #[derive(Clone, Copy)]
@@ -7,7 +7,7 @@ pub enum Change {
     /// It takes so many from the top.
     Take(usize),
     /// It takes so many from the top, and puts this one there.
-    Put(usize, Val1),
+    Put(usize, Slot),
     /// It takes so many from the top, and ends by a jump.
     Exit(usize, Jump),
 }

@@ -7,14 +7,11 @@ ghost use Rattle.meaning_core1.specs.Instances.{const_step, const_value, kept_or
 ghost use Rattle.meaning_core1.specs.Operators.{pure_op};
 ghost use Rattle.run_core1.specs.Constants.{IsConstantOp, IsConstantInstr, IsConstantCode};
 
+use crate::slot::{ABSENT, Slot};
 use core1_ast::module::{Instr1, Op1};
-use meaning_core1::Val1;
-
-/// What a value that is not there is taken for.
-pub(crate) const ABSENT: Val1 = Val1::I32(0);
 
 /// The value of a constant expression, by the globals that are there.
-pub(crate) fn constant(globals: &[Val1], code: &[Instr1]) -> Val1
+pub(crate) fn constant(globals: &[Slot], code: &[Instr1]) -> Slot
     requires { IsConstantCode code.now }
     ensures { result ≡ const_value globals.now code.now }
 {
@@ -25,7 +22,7 @@ pub(crate) fn constant(globals: &[Val1], code: &[Instr1]) -> Val1
 }
 
 /// The value of an instruction that is a constant.
-fn constant_of(globals: &[Val1], instr: &Instr1) -> Val1
+fn constant_of(globals: &[Slot], instr: &Instr1) -> Slot
     requires { IsConstantInstr (out-Instr1 instr.now) }
     ensures { result ≡ top absent (const_step globals.now (out-Instr1 instr.now) []) }
 {
@@ -40,13 +37,13 @@ fn constant_of(globals: &[Val1], instr: &Instr1) -> Val1
 }
 
 /// The value of an operator that is a constant.
-fn constant_operator(op: Op1) -> Val1
+fn constant_operator(op: Op1) -> Slot
     requires { IsConstantOp op }
     ensures { result ≡ top absent (kept_or [] (pure_op op [])) }
 {
     match op {
-        Op1::I32Const(i) => Val1::I32(i),
-        Op1::I64Const(i) => Val1::I64(i),
+        Op1::I32Const(i) => Slot::i32(i),
+        Op1::I64Const(i) => Slot::i64(i),
         _ => ABSENT,
     }
 }

@@ -4,8 +4,8 @@ ghost use Rattle.meaning_core1.specs.Store.{host_value, value_from};
 ghost use Rattle.host_kit.specs.Offered1.{exported1};
 ghost use Rattle.meaning_core1.specs.Hosting.{exported_values};
 
-use crate::constants::ABSENT;
 use crate::program::Program;
+use crate::slot::{ABSENT, Slot};
 use crate::state::State;
 use core1_ast::module::ExportDesc1;
 use host_kit::{Value, Values};
@@ -14,22 +14,22 @@ use sqlite_items::Items;
 use std::alloc::{AllocError, Global};
 
 /// A value as its host sees it.
-pub fn host_value(value: Val1) -> Value
+pub fn host_value(value: Slot) -> Value
     ensures { result ≡ host_value value }
 {
-    match value {
+    match value.value() {
         Val1::I32(i) => Value::I32(i),
         Val1::I64(i) => Value::I64(i),
     }
 }
 
 /// A value of the host's, of which only integers meet a module of 1.0.
-pub fn value_from(value: Value) -> Val1
+pub fn value_from(value: Value) -> Slot
     ensures { result ≡ value_from value }
 {
     match value {
-        Value::I32(i) => Val1::I32(i),
-        Value::I64(i) => Val1::I64(i),
+        Value::I32(i) => Slot::i32(i),
+        Value::I64(i) => Slot::i64(i),
         _ => ABSENT,
     }
 }

@@ -1,4 +1,5 @@
 // Calls of imported functions.
+ghost use Rattle.meaning_core1.specs.declared.val1.Val1.{Val1};
 ghost use Rattle.std.specs.Prelude.{◌≡◌, ℕ, List, [], ◌++◌, map, reverse, slice_get, IfOk, OnOk, option_map};
 ghost use Rattle.std.specs.Option.{option_copied};
 ghost use Rattle.host_kit.specs.declared.event.Event.TheVariants as events;
@@ -9,11 +10,11 @@ ghost use Rattle.run_core1.specs.Answers.{answered, first_left, without_first};
 
 use crate::exports::{host_value, value_from};
 use crate::program::Program;
+use crate::slot::Slot;
 use crate::state::State;
 use evaluation_kit::Jump;
 use host_kit::{Event, Reply, Value, Values};
 use machine_kit::Operands;
-use meaning_core1::Val1;
 use sqlite_items::Items;
 use std::alloc::{AllocError, Global};
 
@@ -24,7 +25,7 @@ impl<'a> Program<'a> {
     pub fn call_host<'s>(
         &self,
         import: u32,
-        arguments: &[Val1],
+        arguments: &[Slot],
         state: &mut State<'s>,
     ) -> Result<Option<&'s [Value]>, AllocError>
         ensures { IfOk result (λ values. (locals : List Val1) → call_host self.now import (record { operands = reverse arguments.now; locals = locals; state = state.old }) ≡ answered import (option_map (λ v. v.now) values) state.new) }
@@ -41,7 +42,7 @@ impl<'a> Program<'a> {
     pub(crate) fn answer(
         &self,
         import: u32,
-        operands: &mut Operands<Val1>,
+        operands: &mut Operands<Slot>,
         state: &mut State,
     ) -> Result<Option<Jump>, AllocError>
         ensures { IfOk result (λ jump. Hosted (call_host self.now import) operands.old state.old operands.new state.new jump) }
@@ -63,7 +64,7 @@ impl<'a> Program<'a> {
     fn show_call(
         &self,
         import: u32,
-        arguments: &[Val1],
+        arguments: &[Slot],
         state: &mut State,
     ) -> Result<(), AllocError>
         ensures { OnOk result (state.new ≡ show (events.HostCall import (map host_value arguments.now) (exported_values self.now state.old)) state.old) }
@@ -102,7 +103,7 @@ fn take_first<'s>(left: &mut [&'s [Reply]], place: usize) -> Option<&'s Reply>
 }
 
 /// Values as their host sees them, in the same order.
-pub fn host_values(alloc: Global, values: &[Val1]) -> Result<Values, AllocError>
+pub fn host_values(alloc: Global, values: &[Slot]) -> Result<Values, AllocError>
     ensures { IfOk result (λ shown. shown ≡ map host_value values.now) }
 {
     let mut shown = Items::new(alloc);
@@ -113,7 +114,7 @@ pub fn host_values(alloc: Global, values: &[Val1]) -> Result<Values, AllocError>
 }
 
 /// All operands in use, the top last.
-pub(crate) fn in_order(operands: &Operands<Val1>) -> &[Val1]
+pub(crate) fn in_order(operands: &Operands<Slot>) -> &[Slot]
     ensures list { result.now ≡ reverse operands.now.used }
     ensures back { reverse result.now ≡ operands.now.used }
 {
@@ -121,7 +122,7 @@ pub(crate) fn in_order(operands: &Operands<Val1>) -> &[Val1]
 }
 
 /// Puts values of the host's on top, the last one topmost.
-pub(crate) fn push_values(operands: &mut Operands<Val1>, values: &[Value]) -> Result<(), AllocError>
+pub(crate) fn push_values(operands: &mut Operands<Slot>, values: &[Value]) -> Result<(), AllocError>
     ensures { OnOk result (operands.new ≡ record operands.old { used = reverse (map value_from values.now) ++ operands.old.used }) }
 {
     for value in values {

@@ -9,11 +9,11 @@ ghost use Rattle.run_core1.specs.Constants.{IsConstantCode, HasConstants};
 use crate::constants::constant;
 use crate::exports::value_from;
 use crate::memory::Memory;
+use crate::slot::Slot;
 use crate::state::State;
 use crate::table::Table;
 use core1_ast::module::{Global1, ImportDesc1, Limits1, Module1};
 use host_kit::{Reply, Script, Value};
-use meaning_core1::Val1;
 use sqlite_items::Items;
 use std::alloc::{AllocError, Global};
 
@@ -39,7 +39,7 @@ impl<'a> State<'a> {
 }
 
 /// The values of the imported globals.
-fn imported_values(alloc: Global, values: &[Value]) -> Result<Vec<Val1>, AllocError>
+fn imported_values(alloc: Global, values: &[Value]) -> Result<Vec<Slot>, AllocError>
     ensures { IfOk result (λ globals. globals.items ≡ map value_from values.now) }
 {
     let mut globals = Vec::new(alloc);
@@ -50,7 +50,7 @@ fn imported_values(alloc: Global, values: &[Value]) -> Result<Vec<Val1>, AllocEr
 }
 
 /// The values of the imported globals, and behind them those of the module's own.
-fn with_own_globals(imported: Vec<Val1>, own: &[Global1]) -> Result<Vec<Val1>, AllocError>
+fn with_own_globals(imported: Vec<Slot>, own: &[Global1]) -> Result<Vec<Slot>, AllocError>
     requires { All (λ g. IsConstantCode g.init) own.now }
     ensures { IfOk result (λ globals. globals.items ≡ imported.items ++ map (λ g. const_value imported.items g.init) own.now) }
 {

@@ -1,4 +1,5 @@
 // The items of a script, and how calls from the host end.
+ghost use Rattle.meaning_core1.specs.declared.val1.Val1.{Val1};
 ghost use Rattle.std.specs.Prelude.{◌≡◌, ℕ, List, map, reverse, Some, None, IfOk, OnOk};
 ghost use Rattle.host_kit.specs.declared.event.Event.TheVariants as events;
 ghost use Rattle.meaning_core1.specs.Store.{show, host_value};
@@ -9,12 +10,12 @@ ghost use Rattle.run_core1.specs.Items.{NextIs};
 
 use crate::host_calls::{host_values, in_order};
 use crate::program::Program;
+use crate::slot::Slot;
 use crate::state::State;
 use core1_ast::module::ExportDesc1;
 use evaluation_kit::Jump;
 use host_kit::{Act, Event, Item, Value};
 use machine_kit::Operands;
-use meaning_core1::Val1;
 use std::alloc::AllocError;
 
 /// What an item of a script asks for.
@@ -48,7 +49,7 @@ impl<'a> Program<'a> {
         &self,
         place: u32,
         jump: Option<Jump>,
-        operands: &Operands<Val1>,
+        operands: &Operands<Slot>,
         state: &mut State,
     ) -> Result<Option<Jump>, AllocError>
         ensures { IfOk result (λ over. (locals : List Val1) → call_status self.now place (ended_by jump (record { operands = operands.now.used; locals = locals; state = state.old })) ≡ ended_by over state.new) }
@@ -78,7 +79,7 @@ impl<'a> Program<'a> {
     }
 
     /// Shows the host what the call of the item at a place returned.
-    fn show_return(&self, place: u32, results: &[Val1], state: &mut State) -> Result<(), AllocError>
+    fn show_return(&self, place: u32, results: &[Slot], state: &mut State) -> Result<(), AllocError>
         ensures { OnOk result (state.new ≡ show (events.Returned place (map host_value results.now) (exported_values self.now state.old)) state.old) }
     {
         let results = host_values(state.alloc, results)?;

@@ -1,42 +1,43 @@
 // Plain instructions on the stacks of a machine.
+ghost use Rattle.meaning_core1.specs.declared.val1.Val1.{Val1};
 ghost use Rattle.std.specs.Prelude.{◌≡◌, ℕ, List, set, slice_index_or, IfOk};
 ghost use Rattle.core1_ast.specs.declared.module.code.Instr1.{out-Instr1};
 ghost use Rattle.core1_ast.specs.declared.module.parts.Module1.{Module1};
 ghost use Rattle.evaluation_kit.specs.Leaves.{top, below, on_operands};
-ghost use Rattle.machine_kit.specs.Heads.{Acted};
+ghost use Rattle.machine_kit.specs.Heads.{StepIs};
+ghost use Rattle.meaning_core1.specs.Language.{layer1};
 ghost use Rattle.meaning_core1.specs.Store.{State1, absent};
 ghost use Rattle.meaning_core1.specs.Operators.{pure_op};
-ghost use Rattle.run_core1.specs.Leaves.{act1, Settles, Ends, IsOnLocals, IsOnStore, IsJump};
+ghost use Rattle.run_core1.specs.Leaves.{act1, Settles, Ends, IsOnLocals, IsParametric, IsOnStore, IsJump};
 
 use crate::change::Change;
-use crate::constants::ABSENT;
 use crate::numeric::{
     binary_operator, branch_if, branch_table, comparison, conversion, select, test_operator,
     unary_operator,
 };
+use crate::slot::{ABSENT, Slot};
 use crate::state::State;
 use core1_ast::module::{Instr1, Op1};
 use evaluation_kit::Jump;
-use machine_kit::{Locals, Operands};
-use meaning_core1::Val1;
+use machine_kit::{Locals, Operands, Step};
 use std::alloc::AllocError;
 
 /// The operand on the top.
-pub(crate) fn top(operands: &Operands<Val1>) -> Val1
+pub(crate) fn top(operands: &Operands<Slot>) -> Slot
     ensures { result ≡ top absent operands.now.used }
 {
     operands.peek(0).unwrap_or(ABSENT)
 }
 
 /// The operand below the top.
-fn next(operands: &Operands<Val1>) -> Val1
+fn next(operands: &Operands<Slot>) -> Slot
     ensures { result ≡ top absent (below operands.now.used) }
 {
     operands.peek(1).unwrap_or(ABSENT)
 }
 
 /// The operand below the two on the top.
-fn third(operands: &Operands<Val1>) -> Val1
+fn third(operands: &Operands<Slot>) -> Slot
     ensures { result ≡ top absent (below (below operands.now.used)) }
 {
     operands.peek(2).unwrap_or(ABSENT)
@@ -46,7 +47,7 @@ fn third(operands: &Operands<Val1>) -> Val1
 #[inline(always)]
 pub(crate) fn settle(
     change: Change,
-    operands: &mut Operands<Val1>,
+    operands: &mut Operands<Slot>,
 ) -> Result<Option<Jump>, AllocError>
     ensures { IfOk result (λ jump. Settles change operands.old operands.new jump) }
 {
@@ -66,55 +67,71 @@ pub(crate) fn settle(
     }
 }
 
-/// Does a plain instruction. The answer is the jump by which it ends, if it does not end at its end.
+/// Does an instruction, where it neither holds code nor calls a function.
 #[inline(always)]
 pub(crate) fn plain(
     instr: &Instr1,
-    operands: &mut Operands<Val1>,
-    locals: &mut Locals<Val1>,
+    operands: &mut Operands<Slot>,
+    locals: &mut Locals<Slot>,
     state: &mut State,
-) -> Result<Option<Jump>, AllocError>
-    ensures { (m : Module1) → IfOk result (λ jump. Acted (act1 m instr.now) operands.old locals.old state.old operands.new locals.new state.new jump) }
+) -> Result<Step, AllocError>
+    ensures { (m : Module1) → IfOk result (λ step. StepIs (layer1 m Instr1 (out-Instr1 instr.now)) step operands.old locals.old state.old operands.new locals.new state.new) }
 {
     match instr {
-        Instr1::Pure(op) => Ok(numeric_leaf(*op, operands)?),
-        Instr1::Drop => settle(Change::Take(1), operands),
-        Instr1::Select => {
-            let change = select(top(operands), next(operands), third(operands));
-            settle(change, operands)
-        }
+        Instr1::Pure(op) => Ok(Step::done(numeric_leaf(*op, operands)?)),
         Instr1::LocalGet(_) | Instr1::LocalSet(_) | Instr1::LocalTee(_) => {
-            Ok(local_leaf(instr, operands, locals)?)
+            Ok(Step::done(local_leaf(instr, operands, locals)?))
+        }
+        Instr1::Drop | Instr1::Select | Instr1::Nop => {
+            Ok(Step::done(parametric_leaf(instr, operands)?))
         }
         Instr1::GlobalGet(_)
         | Instr1::GlobalSet(_)
         | Instr1::Load(_, _)
         | Instr1::Store(_, _)
         | Instr1::MemorySize
-        | Instr1::MemoryGrow => Ok(store_leaf(instr, operands, state)?),
+        | Instr1::MemoryGrow => Ok(Step::done(store_leaf(instr, operands, state)?)),
         Instr1::Unreachable
         | Instr1::Br(_)
         | Instr1::BrIf(_)
         | Instr1::BrTable(_, _)
         | Instr1::Return
-        | Instr1::Float(_, _) => Ok(jump_leaf(instr, operands)?),
-        Instr1::Nop
-        | Instr1::Block(_, _)
+        | Instr1::Float(_, _) => Ok(Step::done(jump_leaf(instr, operands)?)),
+        Instr1::Block(_, _)
         | Instr1::Loop(_, _)
         | Instr1::If(_, _, _)
         | Instr1::Call(_)
-        | Instr1::CallIndirect(_) => Ok(None),
+        | Instr1::CallIndirect(_) => Ok(Step::Form),
+    }
+}
+
+/// Does drop, select or nop.
+#[inline(always)]
+fn parametric_leaf(
+    instr: &Instr1,
+    operands: &mut Operands<Slot>,
+) -> Result<Option<Jump>, AllocError>
+    requires { IsParametric (out-Instr1 instr.now) }
+    ensures { (m : Module1) (l : List Val1) (s : State1) → IfOk result (λ jump. Ends (act1 m instr.now) operands.old l s operands.new l s jump) }
+{
+    match instr {
+        Instr1::Drop => settle(Change::Take(1), operands),
+        Instr1::Select => {
+            let change = select(top(operands), next(operands), third(operands));
+            settle(change, operands)
+        }
+        _ => Ok(None),
     }
 }
 
 /// Does a numeric instruction.
 #[inline(always)]
-fn numeric_leaf(op: Op1, operands: &mut Operands<Val1>) -> Result<Option<Jump>, AllocError>
+fn numeric_leaf(op: Op1, operands: &mut Operands<Slot>) -> Result<Option<Jump>, AllocError>
     ensures { (l : List Val1) (s : State1) → IfOk result (λ jump. Ends (on_operands (pure_op op)) operands.old l s operands.new l s jump) }
 {
     match op {
-        Op1::I32Const(i) => settle(Change::Put(0, Val1::I32(i)), operands),
-        Op1::I64Const(i) => settle(Change::Put(0, Val1::I64(i)), operands),
+        Op1::I32Const(i) => settle(Change::Put(0, Slot::i32(i)), operands),
+        Op1::I64Const(i) => settle(Change::Put(0, Slot::i64(i)), operands),
         Op1::Eqz(width) => {
             let change = test_operator(width, top(operands));
             settle(change, operands)
@@ -142,8 +159,8 @@ fn numeric_leaf(op: Op1, operands: &mut Operands<Val1>) -> Result<Option<Jump>, 
 #[inline(always)]
 fn local_leaf(
     instr: &Instr1,
-    operands: &mut Operands<Val1>,
-    locals: &mut Locals<Val1>,
+    operands: &mut Operands<Slot>,
+    locals: &mut Locals<Slot>,
 ) -> Result<Option<Jump>, AllocError>
     requires { IsOnLocals (out-Instr1 instr.now) }
     ensures act { (m : Module1) (s : State1) → IfOk result (λ jump. Ends (act1 m instr.now) operands.old locals.old.used s operands.new locals.new.used s jump) }
@@ -164,7 +181,7 @@ fn local_leaf(
 }
 
 /// The local with this index.
-fn local(locals: &Locals<Val1>, index: u32) -> Val1
+fn local(locals: &Locals<Slot>, index: u32) -> Slot
     ensures { result ≡ slice_index_or locals.now.used index absent }
 {
     match locals.get(index as usize) {
@@ -176,7 +193,7 @@ fn local(locals: &Locals<Val1>, index: u32) -> Val1
 /// Does an instruction on globals or memory.
 fn store_leaf(
     instr: &Instr1,
-    operands: &mut Operands<Val1>,
+    operands: &mut Operands<Slot>,
     state: &mut State,
 ) -> Result<Option<Jump>, AllocError>
     requires { IsOnStore (out-Instr1 instr.now) }
@@ -207,7 +224,7 @@ fn store_leaf(
 
 /// Does a plain instruction of control.
 #[inline(always)]
-fn jump_leaf(instr: &Instr1, operands: &mut Operands<Val1>) -> Result<Option<Jump>, AllocError>
+fn jump_leaf(instr: &Instr1, operands: &mut Operands<Slot>) -> Result<Option<Jump>, AllocError>
     requires { IsJump (out-Instr1 instr.now) }
     ensures { (m : Module1) (l : List Val1) (s : State1) → IfOk result (λ jump. Ends (act1 m instr.now) operands.old l s operands.new l s jump) }
 {

@@ -1,3 +1,4 @@
+ghost use Rattle.meaning_core1.specs.declared.val1.Val1.{Val1};
 ghost use Rattle.std.specs.Prelude.{◌≡◌, ℕ, List, [], ◌∷◌, ◌++◌, map, filter_map, slice_get, IfOk};
 ghost use Rattle.std.specs.Option.{option_copied};
 ghost use Rattle.core1_ast.specs.Spaces.{func_import, func_indices};
@@ -8,10 +9,9 @@ ghost use Rattle.run_core1.specs.Changes.{Lie};
 ghost use Rattle.run_core1.specs.Callees.{CalleeIs};
 ghost use Rattle.run_core1.specs.Constants.{HasConstants};
 
-use crate::numeric::number;
+use crate::slot::Slot;
 use crate::state::State;
 use core1_ast::module::{Body1, FuncType1, Import1, ImportDesc1, Module1, Ty1};
-use meaning_core1::Val1;
 use std::alloc::{AllocError, Global};
 use std::marker::Model;
 
@@ -106,10 +106,10 @@ impl<'a> Program<'a> {
 
     /// The function that call_indirect finds in the table at the place on the top, where there is one and it has the type
     /// (the standard's "Control Instructions").
-    pub fn find_in_table(&self, ty: u32, state: &State, top: Val1) -> Option<u32>
+    pub fn find_in_table(&self, ty: u32, state: &State, top: Slot) -> Option<u32>
         ensures { (operands locals : List Val1) → Lie (top ∷ []) operands → result ≡ pick1 self.now ty (record { operands = operands; locals = locals; state = state.now }) }
     {
-        let func = state.entry(number(top))?;
+        let func = state.entry(top.number())?;
         if equal_func_types(
             self.func_type(func),
             self.module.types.as_slice().get(ty as usize),
@@ -139,12 +139,12 @@ impl<'a> Program<'a> {
 }
 
 /// What a declared local of a type begins with (the standard's "Invocation").
-pub fn zero(ty: Ty1) -> Val1
+pub fn zero(ty: Ty1) -> Slot
     ensures { result ≡ zero_of_type ty }
 {
     match ty {
-        Ty1::I64 => Val1::I64(0),
-        Ty1::I32 | Ty1::F32 | Ty1::F64 => Val1::I32(0),
+        Ty1::I64 => Slot::i64(0),
+        Ty1::I32 | Ty1::F32 | Ty1::F64 => Slot::i32(0),
     }
 }
 

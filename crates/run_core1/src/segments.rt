@@ -10,7 +10,6 @@ ghost use Rattle.meaning_core1.specs.Runs.{segments_status};
 ghost use Rattle.run_core1.specs.Constants.{IsConstantCode, HasConstants};
 
 use crate::constants::constant;
-use crate::numeric::number;
 use crate::state::State;
 use core1_ast::module::{Code1, Element1, Module1, Segment1};
 use host_kit::Event;
@@ -101,7 +100,7 @@ impl<'a> State<'a> {
         requires { IsConstantCode code.now }
         ensures { result ≡ offset_of self.now.store code.now }
     {
-        number(constant(self.globals.as_slice(), code.as_slice()))
+        constant(self.globals.as_slice(), code.as_slice()).number()
     }
 
     /// Writes element segments that are inside.

@@ -9,16 +9,14 @@ ghost use Rattle.run_core1.specs.Changes.{Does};
 ghost use Rattle.run_core1.specs.Views.{mark_of};
 
 use crate::change::Change;
-use crate::constants::ABSENT;
 use crate::little_endian::{load_bytes, load_width, loaded};
 use crate::mark::Mark1;
 use crate::memory::Memory;
-use crate::numeric::{number, value_of};
+use crate::slot::{ABSENT, Slot};
 use crate::table::Table;
 use core1_ast::module::MemArg1;
 use evaluation_kit::Jump;
 use host_kit::Reply;
-use meaning_core1::Val1;
 use num_core::operators::{Load, Store};
 use sqlite_items::Items;
 use std::alloc::{AllocError, Global};
@@ -29,7 +27,7 @@ use std::marker::Model;
 #[derive(Drop)]
 pub struct State<'a> {
     pub(crate) alloc: Global,
-    pub(crate) globals: Vec<Val1>,
+    pub(crate) globals: Vec<Slot>,
     pub(crate) memories: Vec<Memory>,
     pub(crate) tables: Vec<Table>,
     pub(crate) replies: Vec<&'a [Reply]>,
@@ -69,7 +67,7 @@ impl<'a> State<'a> {
     }
 
     /// What global.set does (the standard's "Variable Instructions").
-    pub fn global_set(&mut self, global: u32, top: Val1) -> Change
+    pub fn global_set(&mut self, global: u32, top: Slot) -> Change
         ensures { Does (by_store (set_global1 global)) (top ∷ []) self.old result self.new }
     {
         self.put_global(global, top);
@@ -77,7 +75,7 @@ impl<'a> State<'a> {
     }
 
     /// The value of a global, or 0 where there is none.
-    pub(crate) fn global(&self, global: u32) -> Val1
+    pub(crate) fn global(&self, global: u32) -> Slot
         ensures { result ≡ slice_index_or self.now.store.globals global absent }
     {
         let value = self.globals.get(global as usize).copied();
@@ -85,7 +83,7 @@ impl<'a> State<'a> {
     }
 
     /// Sets a global, where it is there.
-    pub(crate) fn put_global(&mut self, global: u32, value: Val1)
+    pub(crate) fn put_global(&mut self, global: u32, value: Slot)
         ensures { self.new ≡ in_store (put_global global value self.old.store) self.old }
     {
         if let Some(place) = self.globals.get_mut(global as usize) {
@@ -94,23 +92,23 @@ impl<'a> State<'a> {
     }
 
     /// What a load does: the address lies on the top (the standard's "Memory Instructions").
-    pub fn load(&self, op: Load, at: MemArg1, top: Val1) -> Change
+    pub fn load(&self, op: Load, at: MemArg1, top: Slot) -> Change
         ensures { Does (by_store (load1 op at)) (top ∷ []) self.now result self.now }
     {
-        match self.loaded(op, at.offset, number(top)) {
+        match self.loaded(op, at.offset, top.number()) {
             Some(value) => Change::Put(1, value),
             None => Change::Exit(0, Jump::Trap),
         }
     }
 
     /// What a store does: the value lies on the top, and the address below it (the standard's "Memory Instructions").
-    pub fn store(&mut self, op: Store, at: MemArg1, top: Val1, next: Val1) -> Change
+    pub fn store(&mut self, op: Store, at: MemArg1, top: Slot, next: Slot) -> Change
         ensures { Does (by_store (store1 op at)) (top ∷ next ∷ []) self.old result self.new }
     {
         let Some(memory) = self.memories.first_mut() else {
             return Change::Exit(0, Jump::Trap);
         };
-        if memory.store(op, number(next), at.offset, number(top)) {
+        if memory.store(op, next.number(), at.offset, top.number()) {
             Change::Take(2)
         } else {
             Change::Exit(0, Jump::Trap)
@@ -122,17 +120,17 @@ impl<'a> State<'a> {
         ensures { Does (by_store size1) [] self.now result self.now }
     {
         match self.memories.first() {
-            Some(memory) => Change::Put(0, Val1::I32(memory.pages())),
+            Some(memory) => Change::Put(0, Slot::i32(memory.pages())),
             None => Change::Exit(0, Jump::Trap),
         }
     }
 
     /// What memory.grow does: it takes the next answer of the host's, and is told of in the trace (the standard's "Growing
     /// Memories"). It fails for want of memory alone, and what it then leaves is no state of the run.
-    pub fn memory_grow(&mut self, top: Val1) -> Result<Change, AllocError>
+    pub fn memory_grow(&mut self, top: Slot) -> Result<Change, AllocError>
         ensures { IfOk result (λ change. Does (by_growth grow1) (top ∷ []) self.old change self.new) }
     {
-        let more = number(top);
+        let more = top.number();
         let Some(memory) = self.memories.first_mut() else {
             return Ok(Change::Exit(0, Jump::Trap));
         };
@@ -144,7 +142,7 @@ impl<'a> State<'a> {
             self.add_pages(more)?;
         }
         self.tell_growth(grown)?;
-        Ok(Change::Put(1, Val1::I32(if grown { pages } else { u32::MAX })))
+        Ok(Change::Put(1, Slot::i32(if grown { pages } else { u32::MAX })))
     }
 
     /// The function that lies in the table at a place, where there is one.
@@ -189,11 +187,11 @@ impl<'a> State<'a> {
     }
 
     /// The value that a load reads, or none where its bytes are not all inside.
-    fn loaded(&self, op: Load, offset: u32, base: u64) -> Option<Val1>
+    fn loaded(&self, op: Load, offset: u32, base: u64) -> Option<Slot>
         ensures { result ≡ option_and_then (λ m. option_map (λ bytes. value_of (load_width op) (loaded op bytes)) (read_range (base + offset) (load_bytes op) m.bytes)) (slice_get self.now.store.memories 0) }
     {
         let bytes = self.memories.first()?.read(base, offset, load_bytes(op))?;
-        Some(value_of(load_width(op), loaded(op, bytes)))
+        Some(Slot::of_width(load_width(op), loaded(op, bytes)))
     }
 }
 

@@ -1,4 +1,5 @@
 // What a host does with a module.
+ghost use Rattle.meaning_core1.specs.declared.val1.Val1.{Val1};
 ghost use Rattle.std.specs.Prelude.{◌≡◌, ◌+◌, List, [], ◌∷◌, ◌++◌, map, IfOk, OnOk};
 ghost use Rattle.machine_kit.specs.Acts.{ended_by};
 ghost use Rattle.machine_kit.specs.Calls.{BegunAs, EndedAs};
@@ -13,12 +14,12 @@ ghost use Rattle.core1_ast.specs.declared.module.parts.Module1.{Module1};
 use crate::host_calls::push_values;
 use crate::items::Next1;
 use crate::program::Program;
+use crate::slot::Slot;
 use crate::state::State;
 use core1_ast::module::Module1;
 use evaluation_kit::Jump;
 use host_kit::{Event, Item, Script};
 use machine_kit::{Begun, Host, Locals, Operands};
-use meaning_core1::Val1;
 use std::alloc::{AllocError, Global};
 
 /// One thing that a host does with a module, of those that it does in order.
@@ -36,7 +37,7 @@ pub enum Task1<'s> {
     Done,
 }
 
-impl<'p, 's> Host<Val1, State<'s>> for Program<'p> {
+impl<'p, 's> Host<Slot, State<'s>> for Program<'p> {
     type Item = Task1<'s>;
 
     ghost task = { λ m t. task_of m t };
@@ -46,7 +47,7 @@ impl<'p, 's> Host<Val1, State<'s>> for Program<'p> {
         alloc: Global,
         item: &Task1<'s>,
         state: &mut State<'s>,
-    ) -> Result<Begun<Val1>, AllocError>
+    ) -> Result<Begun<Slot>, AllocError>
         ensures { IfOk result (λ begun. BegunAs (task_of self.now item.now) state.old begun state.new) }
     {
         match item {
@@ -71,8 +72,8 @@ impl<'p, 's> Host<Val1, State<'s>> for Program<'p> {
         &self,
         item: &Task1<'s>,
         jump: Option<Jump>,
-        operands: &Operands<Val1>,
-        locals: &Locals<Val1>,
+        operands: &Operands<Slot>,
+        locals: &Locals<Slot>,
         state: &mut State<'s>,
     ) -> Result<Option<Jump>, AllocError>
         ensures { IfOk result (λ over. EndedAs (task_of self.now item.now) (ended_by jump (record { operands = operands.now.used; locals = locals.now.used; state = state.old })) over state.new) }
@@ -93,7 +94,7 @@ impl<'p> Program<'p> {
         place: u32,
         item: &Item,
         state: &mut State,
-    ) -> Result<Begun<Val1>, AllocError>
+    ) -> Result<Begun<Slot>, AllocError>
         ensures { IfOk result (λ begun. BegunAs (item1 self.now place item.now) state.old begun state.new) }
     {
         match self.next(item) {
@@ -119,7 +120,7 @@ impl<'p> Program<'p> {
         place: u32,
         item: &Item,
         jump: Option<Jump>,
-        operands: &Operands<Val1>,
+        operands: &Operands<Slot>,
         state: &mut State,
     ) -> Result<Option<Jump>, AllocError>
         ensures { IfOk result (λ over. (locals : List Val1) → EndedAs (item1 self.now place item.now) (ended_by jump (record { operands = operands.now.used; locals = locals; state = state.old })) over state.new) }

@@ -3,9 +3,8 @@ ghost use Rattle.std.specs.Prelude.{◌≡◌, ◌++◌, List, [], ◌∷◌, ma
 ghost use Rattle.core1_ast.specs.declared.module.code.Instr1.{out-Instr1, roll-out-Instr1};
 ghost use Rattle.machine_kit.specs.Whole.{acts_of};
 ghost use Rattle.machine_kit.specs.Acts.{act_of, test_of, handler_of, pick_of, zeros_of, host_of};
-ghost use Rattle.machine_kit.specs.Heads.{HeadIs, TargetIs, Acted, Hosted, Handled};
+ghost use Rattle.machine_kit.specs.Heads.{HeadIs, TargetIs, StepIs, Hosted, Handled};
 ghost use Rattle.core1_ast.specs.declared.module.code.Instr1.{Instr1};
-ghost use Rattle.run_core1.specs.Leaves.{act1};
 ghost use Rattle.machine_kit.proofs.Laws.{laws_of};
 ghost use Rattle.meaning_core1.specs.Store.{zero_of_type};
 ghost use Rattle.meaning_core1.specs.Language.{language1, layer1, callee1, block_results};
@@ -13,17 +12,16 @@ ghost use Rattle.meaning_core1.specs.Language.{language1, layer1, callee1, block
 use crate::leaves::{plain, top};
 use crate::numeric::is_true;
 use crate::program::{Callee1, Program, zero};
+use crate::slot::Slot;
 use crate::state::State;
 use core1_ast::module::{BlockType1, Instr1, Ty1};
 use evaluation_kit::Jump;
-use machine_kit::{Body, Head, Locals, Operands, Target, Version};
-use meaning_core1::Val1;
+use machine_kit::{Body, Head, Locals, Operands, Step, Target, Version};
 use std::alloc::AllocError;
 
-impl<'p, 's> Version<Instr1, Val1, State<'s>> for Program<'p> {
+impl<'p, 's> Version<Instr1, Slot, State<'s>> for Program<'p> {
     ghost acts = { λ m. acts_of (language1 m) out-Instr1 };
 
-    #[inline(always)]
     fn head<'a>(&self, instr: &'a Instr1) -> Head<'a, Instr1>
         ensures { HeadIs (layer1 self.now Instr1 (out-Instr1 instr.now)) result }
     {
@@ -43,16 +41,16 @@ impl<'p, 's> Version<Instr1, Val1, State<'s>> for Program<'p> {
     fn leaf(
         &self,
         instr: &Instr1,
-        operands: &mut Operands<Val1>,
-        locals: &mut Locals<Val1>,
+        operands: &mut Operands<Slot>,
+        locals: &mut Locals<Slot>,
         state: &mut State<'s>,
-    ) -> Result<Option<Jump>, AllocError>
-        ensures { IfOk result (λ jump. Acted (act1 self.now instr.now) operands.old locals.old state.old operands.new locals.new state.new jump) }
+    ) -> Result<Step, AllocError>
+        ensures { IfOk result (λ step. StepIs (layer1 self.now Instr1 (out-Instr1 instr.now)) step operands.old locals.old state.old operands.new locals.new state.new) }
     {
         plain(instr, operands, locals, state)
     }
 
-    fn test(&self, instr: &Instr1, operands: &Operands<Val1>) -> bool
+    fn test(&self, instr: &Instr1, operands: &Operands<Slot>) -> bool
         ensures { result ≡ test_of (layer1 self.now Instr1 (out-Instr1 instr.now)) operands.now.used }
     {
         match instr {
@@ -64,8 +62,8 @@ impl<'p, 's> Version<Instr1, Val1, State<'s>> for Program<'p> {
     fn pick(
         &self,
         instr: &Instr1,
-        operands: &Operands<Val1>,
-        _locals: &Locals<Val1>,
+        operands: &Operands<Slot>,
+        _locals: &Locals<Slot>,
         state: &State<'s>,
     ) -> Option<u32>
         ensures { result ≡ pick_of (layer1 self.now Instr1 (out-Instr1 instr.now)) (record { operands = operands.now.used; locals = _locals.now.used; state = state.now }) }
@@ -80,7 +78,7 @@ impl<'p, 's> Version<Instr1, Val1, State<'s>> for Program<'p> {
         &self,
         _instr: &Instr1,
         _exception: u32,
-        _operands: &mut Operands<Val1>,
+        _operands: &mut Operands<Slot>,
         _state: &mut State<'s>,
     ) -> Result<Option<Jump>, AllocError>
         ensures { IfOk result (λ jump. Handled (handler_of (layer1 self.now Instr1 (out-Instr1 _instr.now))) _exception _operands.old _state.old _operands.new _state.new jump) }
@@ -102,7 +100,7 @@ impl<'p, 's> Version<Instr1, Val1, State<'s>> for Program<'p> {
         }
     }
 
-    fn zeros(&self, func: u32, locals: &mut Locals<Val1>) -> Result<(), AllocError>
+    fn zeros(&self, func: u32, locals: &mut Locals<Slot>) -> Result<(), AllocError>
         ensures { OnOk result (locals.new ≡ record locals.old { used = locals.old.used ++ zeros_of (callee1 self.now func) }) }
     {
         match self.find(func) {
@@ -114,7 +112,7 @@ impl<'p, 's> Version<Instr1, Val1, State<'s>> for Program<'p> {
     fn host(
         &self,
         func: u32,
-        operands: &mut Operands<Val1>,
+        operands: &mut Operands<Slot>,
         state: &mut State<'s>,
     ) -> Result<Option<Jump>, AllocError>
         ensures { IfOk result (λ jump. Hosted (host_of (callee1 self.now func)) operands.old state.old operands.new state.new jump) }
@@ -139,7 +137,7 @@ fn results(ty: BlockType1) -> usize
 }
 
 /// More locals, which are zeros of these types.
-fn push_zeros(locals: &mut Locals<Val1>, types: &[Ty1]) -> Result<(), AllocError>
+fn push_zeros(locals: &mut Locals<Slot>, types: &[Ty1]) -> Result<(), AllocError>
     ensures { OnOk result (locals.new ≡ record locals.old { used = locals.old.used ++ map zero_of_type types.now }) }
 {
     for ty in types {

@@ -18,6 +18,7 @@ pub enum Change<V> {
 
 /// Makes a change to the operands. The answer is the jump by which the instruction ends, if it does not end at its end.
 /// It fails for want of memory alone.
+#[inline(always)]
 pub fn settle<V: Copy>(
     change: Change<V>,
     operands: &mut Operands<V>,
@@ -31,8 +32,7 @@ pub fn settle<V: Copy>(
             Ok(None)
         }
         Change::Put(count, value) => {
-            operands.drop_top(count);
-            operands.push(value)?;
+            operands.put(count, value)?;
             Ok(None)
         }
         Change::Exit(count, jump) => {

@@ -1,5 +1,6 @@
 pub mod Keys
 pub mod Places
+pub mod Plain
 pub mod Catching
 pub mod Steady
 pub mod Called

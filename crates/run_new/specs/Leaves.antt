@@ -1,5 +1,5 @@
 -- Plain instructions as calls.
-use Rattle.std.specs.Prelude.{ℕ, Bool, if◌then◌else◌, List}
+use Rattle.std.specs.Prelude.{ℕ, Bool, true, false, if◌then◌else◌, List}
 use Rattle.wasm_ast.specs.declared.module.code.Instr.{Instr, out-Instr}
 use Rattle.wasm_ast.specs.declared.module.code.Instr.TheOpen.{Instr-F}
 use Rattle.wasm_ast.specs.declared.module.op.Op.{Op}
@@ -30,6 +30,16 @@ DoesInStore act given old change new = (s : State) → Does act given (with_stor
 -- so many operands are taken where something fits, and else the instruction traps
 abbrev pub fits_or_trap : Bool → ℕ → Change Val
 fits_or_trap fits n = if fits then Take n else Exit 0 Trap
+
+-- an instruction that neither holds code nor calls a function
+abbrev pub is_plain : Instr-F Instr → Bool
+is_plain (Instr-F.Block t code) = false
+is_plain (Instr-F.Loop t code) = false
+is_plain (Instr-F.If t a b) = false
+is_plain (Instr-F.TryTable t clauses code) = false
+is_plain (Instr-F.Call x) = false
+is_plain (Instr-F.CallIndirect t x) = false
+is_plain _ = true
 
 -- instructions on locals
 abbrev pub IsOnLocals : Instr-F Instr → Type 0

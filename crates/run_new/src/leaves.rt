@@ -3,14 +3,17 @@ ghost use Rattle.std.specs.Prelude.{◌≡◌, ℕ, List, [], ◌∷◌, slice_i
 ghost use Rattle.wasm_ast.specs.declared.module.code.Instr.{out-Instr};
 ghost use Rattle.wasm_ast.specs.declared.module.parts.Module.{Module};
 ghost use Rattle.typed_trees.specs.Typed.{module_of};
-ghost use Rattle.evaluation_kit.specs.Leaves.{top, below};
+ghost use Rattle.evaluation_kit.specs.Leaves.{top, below, on_operands};
 ghost use Rattle.meaning_new.specs.Store as states;
+ghost use Rattle.meaning_new.specs.Numeric.{pure};
 ghost use Rattle.meaning_new.specs.Store.{missing, with_store};
 ghost use Rattle.run_kit.specs.Changes.{Changes};
 ghost use Rattle.run_new.specs.States.{whole};
-ghost use Rattle.run_new.specs.Leaves.{act, IsOnLocals, IsParametric, IsJump, IsAccess, IsOnMemories, IsOnTables};
+ghost use Rattle.run_new.specs.Leaves.{act, is_plain, IsOnLocals, IsParametric, IsJump, IsAccess, IsOnMemories, IsOnTables};
 
-use crate::numeric::pure;
+use crate::numeric::{
+    binary_operator, comparison, conversion, pure, test_operator, unary_operator,
+};
 use crate::program::Program;
 use crate::state::State;
 use crate::store::Store;
@@ -21,9 +24,10 @@ use machine_kit::{Locals, Operands};
 use meaning_new::Val;
 use run_kit::Change;
 use std::alloc::AllocError;
-use wasm_ast::module::Instr;
+use wasm_ast::module::{Instr, Op};
 
 /// The operand on the top.
+#[inline(always)]
 pub(crate) fn top(operands: &Operands<Val>) -> Val
     ensures { result ≡ top missing operands.now.used }
 {
@@ -31,6 +35,7 @@ pub(crate) fn top(operands: &Operands<Val>) -> Val
 }
 
 /// The operand below the top.
+#[inline(always)]
 pub(crate) fn next(operands: &Operands<Val>) -> Val
     ensures { result ≡ top missing (below operands.now.used) }
 {
@@ -38,14 +43,32 @@ pub(crate) fn next(operands: &Operands<Val>) -> Val
 }
 
 /// The operand below the two on the top.
+#[inline(always)]
 pub(crate) fn third(operands: &Operands<Val>) -> Val
     ensures { result ≡ top missing (below (below operands.now.used)) }
 {
     operands.peek(2).unwrap_or(MISSING)
 }
 
+/// Whether an instruction neither holds code nor calls a function.
+#[inline(always)]
+pub(crate) fn is_plain(instr: &Instr) -> bool
+    ensures { result ≡ is_plain (out-Instr instr.now) }
+{
+    match instr {
+        Instr::Block(_, _)
+        | Instr::Loop(_, _)
+        | Instr::If(_, _, _)
+        | Instr::TryTable(_, _, _)
+        | Instr::Call(_)
+        | Instr::CallIndirect(_, _) => false,
+        _ => true,
+    }
+}
+
 /// What a plain instruction does to the operands, after it has changed the locals and the state. It fails for want of
 /// memory alone.
+#[inline(always)]
 pub(crate) fn plain<'s>(
     program: &Program,
     instr: &Instr,
@@ -56,7 +79,7 @@ pub(crate) fn plain<'s>(
     ensures { IfOk result (λ change. Changes (act (module_of program.now) instr.now) operands.now locals.old.used (whole state.old) change locals.new.used (whole state.new) × (locals.new.aside ≡ locals.old.aside)) }
 {
     match instr {
-        Instr::Pure(op) => Ok(pure(*op, top(operands), next(operands), third(operands))),
+        Instr::Pure(op) => Ok(pure_leaf(*op, operands)),
         Instr::LocalGet(_) | Instr::LocalSet(_) | Instr::LocalTee(_) => {
             Ok(local_leaf(instr, operands, locals))
         }
@@ -117,7 +140,26 @@ pub(crate) fn plain<'s>(
     }
 }
 
+/// What an instruction on operands alone does. One on integers reads no more operands than it takes, since most of the
+/// time of a run goes into these.
+#[inline(always)]
+fn pure_leaf(op: Op, operands: &Operands<Val>) -> Change<Val>
+    ensures { (l : List Val) (s : states.State) → Changes (on_operands (pure op)) operands.now l s result l s }
+{
+    match op {
+        Op::I32Const(i) => Change::Put(0, Val::I32(i)),
+        Op::I64Const(i) => Change::Put(0, Val::I64(i)),
+        Op::Eqz(width) => test_operator(width, top(operands)),
+        Op::Compare(width, op) => comparison(width, op, top(operands), next(operands)),
+        Op::Unary(width, op) => unary_operator(width, op, top(operands)),
+        Op::Binary(width, op) => binary_operator(width, op, top(operands), next(operands)),
+        Op::Convert(op) => conversion(op, top(operands)),
+        other => pure(other, top(operands), next(operands), third(operands)),
+    }
+}
+
 /// What an instruction on locals does.
+#[inline(always)]
 fn local_leaf(instr: &Instr, operands: &Operands<Val>, locals: &mut Locals<Val>) -> Change<Val>
     requires { IsOnLocals (out-Instr instr.now) }
     ensures act { (m : Module) (s : states.State) → Changes (act m instr.now) operands.now locals.old.used s result locals.new.used s }
@@ -138,6 +180,7 @@ fn local_leaf(instr: &Instr, operands: &Operands<Val>, locals: &mut Locals<Val>)
 }
 
 /// The local with this index.
+#[inline(always)]
 fn local(locals: &Locals<Val>, index: u32) -> Val
     ensures { result ≡ slice_index_or locals.now.used index missing }
 {
@@ -148,6 +191,7 @@ fn local(locals: &Locals<Val>, index: u32) -> Val
 }
 
 /// What drop and select do, and nothing for nop and for what is not plain.
+#[inline(always)]
 fn parametric_leaf(instr: &Instr, operands: &Operands<Val>) -> Change<Val>
     requires { IsParametric (out-Instr instr.now) }
     ensures { (m : Module) (l : List Val) (s : states.State) → Changes (act m instr.now) operands.now l s result l s }
@@ -162,6 +206,7 @@ fn parametric_leaf(instr: &Instr, operands: &Operands<Val>) -> Change<Val>
 }
 
 /// What a jump does.
+#[inline(always)]
 fn jump_leaf(instr: &Instr, operands: &Operands<Val>) -> Change<Val>
     requires { IsJump (out-Instr instr.now) }
     ensures { (m : Module) (l : List Val) (s : states.State) → Changes (act m instr.now) operands.now l s result l s }

@@ -11,12 +11,27 @@ use crate::vectors::vector_operator;
 use evaluation_kit::Jump;
 use meaning_new::Val;
 use num_core::operations::{binary, compare, convert, eqz, unary};
-use num_core::operators::{Bin, Conv, Un, Width};
+use num_core::operators::{Bin, Cmp, Conv, Un, Width};
 use run_kit::Change;
 use wasm_ast::module::Op;
 
 /// The integer of a width that a value is: its lowest bits.
+#[inline(always)]
 pub(crate) fn integer(width: Width, value: Val) -> u64
+    ensures value { result ≡ wrap (bits width) (number value) }
+    ensures below { result < 2 ^ bits width }
+{
+    match (width, value) {
+        (Width::W32, Val::I32(i)) => i.into(),
+        (Width::W64, Val::I64(i)) => i,
+        _ => lowest_bits(width, value),
+    }
+}
+
+/// The same, of a value of any type.
+#[cold]
+#[inline(never)]
+fn lowest_bits(width: Width, value: Val) -> u64
     ensures value { result ≡ wrap (bits width) (number value) }
     ensures below { result < 2 ^ bits width }
 {
@@ -26,8 +41,26 @@ pub(crate) fn integer(width: Width, value: Val) -> u64
     }
 }
 
+/// What a test does (t.testop).
+#[inline(always)]
+pub(crate) fn test_operator(width: Width, top: Val) -> Change<Val>
+    ensures { (s : State) → Does (on_operands (pure (Op.Eqz width))) (top ∷ []) s result s }
+{
+    Change::Put(1, truth(eqz(width, integer(width, top))))
+}
+
+/// What a comparison does (t.relop).
+#[inline(always)]
+pub(crate) fn comparison(width: Width, op: Cmp, top: Val, next: Val) -> Change<Val>
+    ensures { (s : State) → Does (on_operands (pure (Op.Compare width op))) (top ∷ next ∷ []) s result s }
+{
+    let holds = compare(width, op, integer(width, next), integer(width, top));
+    Change::Put(2, truth(holds))
+}
+
 /// What a binary operator does (t.binop).
-fn binary_operator(width: Width, op: Bin, top: Val, next: Val) -> Change<Val>
+#[inline(always)]
+pub(crate) fn binary_operator(width: Width, op: Bin, top: Val, next: Val) -> Change<Val>
     ensures { (s : State) → Does (on_operands (pure (Op.Binary width op))) (top ∷ next ∷ []) s result s }
 {
     match binary(width, op, integer(width, next), integer(width, top)) {
@@ -37,7 +70,8 @@ fn binary_operator(width: Width, op: Bin, top: Val, next: Val) -> Change<Val>
 }
 
 /// What a unary operator does (t.unop).
-fn unary_operator(width: Width, op: Un, top: Val) -> Change<Val>
+#[inline(always)]
+pub(crate) fn unary_operator(width: Width, op: Un, top: Val) -> Change<Val>
     ensures { (s : State) → Does (on_operands (pure (Op.Unary width op))) (top ∷ []) s result s }
 {
     Change::Put(1, int(width, unary(width, op, integer(width, top))))
@@ -57,7 +91,8 @@ fn widths(op: Conv) -> (Width, Width)
 }
 
 /// What a conversion does (t2.cvtop).
-fn conversion(op: Conv, top: Val) -> Change<Val>
+#[inline(always)]
+pub(crate) fn conversion(op: Conv, top: Val) -> Change<Val>
     ensures { (s : State) → Does (on_operands (pure (Op.Convert op))) (top ∷ []) s result s }
 {
     let (from, to) = widths(op);
@@ -71,11 +106,8 @@ pub(crate) fn pure(op: Op, top: Val, next: Val, third: Val) -> Change<Val>
     match op {
         Op::I32Const(i) => Change::Put(0, Val::I32(i)),
         Op::I64Const(i) => Change::Put(0, Val::I64(i)),
-        Op::Eqz(width) => Change::Put(1, truth(eqz(width, integer(width, top)))),
-        Op::Compare(width, op) => {
-            let holds = compare(width, op, integer(width, next), integer(width, top));
-            Change::Put(2, truth(holds))
-        }
+        Op::Eqz(width) => test_operator(width, top),
+        Op::Compare(width, op) => comparison(width, op, top, next),
         Op::Unary(width, op) => unary_operator(width, op, top),
         Op::Binary(width, op) => binary_operator(width, op, top, next),
         Op::Convert(op) => conversion(op, top),

@@ -19,6 +19,7 @@ use wasm_ast::module::Ty;
 pub(crate) const MISSING: Val = Val::I32(0);
 
 /// The number that a value is; a reference is none, and is taken for 0.
+#[inline(always)]
 pub(crate) fn number(value: Val) -> u128
     ensures { result ≡ number value }
 {
@@ -31,6 +32,7 @@ pub(crate) fn number(value: Val) -> u128
 }
 
 /// The value of a width that an integer is.
+#[inline(always)]
 pub(crate) fn int(width: Width, i: u64) -> Val
     requires { i < 2 ^ bits width }
     ensures { result ≡ int width i }
@@ -49,6 +51,7 @@ pub(crate) fn address_width(wide: bool) -> Width
 }
 
 /// The value of a truth: 1 or 0.
+#[inline(always)]
 pub(crate) fn truth(holds: bool) -> Val
     ensures { result ≡ truth holds }
 {
@@ -125,6 +128,7 @@ pub(crate) fn from_host(value: Value) -> Val
 }
 
 /// Whether the condition on the top holds: it is not 0 (the standard's "Control Instructions", if).
+#[inline(always)]
 pub(crate) fn is_true(top: Val) -> bool
     ensures { result ≡ not (nat_eq (number top) 0) }
 {
@@ -133,6 +137,7 @@ pub(crate) fn is_true(top: Val) -> bool
 
 /// What select does: the first of the lower two operands where the condition on the top holds, else the second (the
 /// standard's "Parametric Instructions").
+#[inline(always)]
 pub(crate) fn select(top: Val, second: Val, first: Val) -> Change<Val>
     ensures { (s : State) → Does (on_operands select) (top ∷ second ∷ first ∷ []) s result s }
 {
@@ -140,6 +145,7 @@ pub(crate) fn select(top: Val, second: Val, first: Val) -> Change<Val>
 }
 
 /// What br_if does: the branch to a label where the condition on the top holds (the standard's "Control Instructions").
+#[inline(always)]
 pub(crate) fn branch_if(label: u32, top: Val) -> Change<Val>
     ensures { (s : State) → Does (branch_if holds label) (top ∷ []) s result s }
 {

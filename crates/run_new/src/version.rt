@@ -1,18 +1,18 @@
 // A module of 3.0 as the machine runs it.
 ghost use Rattle.std.specs.Prelude.{◌≡◌, ◌++◌, List, map, IfOk, OnOk};
 ghost use Rattle.typed_trees.specs.Typed.{module_of};
-ghost use Rattle.machine_kit.specs.Acts.{act_of, test_of, handler_of, pick_of, zeros_of, host_of};
-ghost use Rattle.machine_kit.specs.Heads.{HeadIs, TargetIs, Acted, Hosted, Handled};
+ghost use Rattle.machine_kit.specs.Acts.{test_of, handler_of, pick_of, zeros_of, host_of};
+ghost use Rattle.machine_kit.specs.Heads.{HeadIs, TargetIs, StepIs, Hosted, Handled};
 ghost use Rattle.meaning_new.specs.Store.{default};
 ghost use Rattle.run_new.specs.Nodes.{node_form, node_callee, node_acts};
 ghost use Rattle.run_new.specs.NodeLaws.{node_laws};
 
-use crate::leaves::{plain, top};
+use crate::leaves::{is_plain, plain, top};
 use crate::program::{Callee, Program, param_count};
 use crate::state::State;
 use crate::values::{default, is_true};
 use evaluation_kit::Jump;
-use machine_kit::{Body, Head, Locals, Operands, Target, Version};
+use machine_kit::{Body, Head, Locals, Operands, Step, Target, Version};
 use meaning_new::Val;
 use run_kit::settle;
 use std::alloc::AllocError;
@@ -45,17 +45,22 @@ impl<'p, 's> Version<Node, Val, State<'s>> for Program<'p> {
         }
     }
 
+    #[inline(always)]
     fn leaf(
         &self,
         instr: &Node,
         operands: &mut Operands<Val>,
         locals: &mut Locals<Val>,
         state: &mut State<'s>,
-    ) -> Result<Option<Jump>, AllocError>
-        ensures { IfOk result (λ jump. Acted (act_of (node_form (module_of self.now) instr.now)) operands.old locals.old state.old operands.new locals.new state.new jump) }
+    ) -> Result<Step, AllocError>
+        ensures { IfOk result (λ step. StepIs (node_form (module_of self.now) instr.now) step operands.old locals.old state.old operands.new locals.new state.new) }
     {
+        if !is_plain(&instr.head) {
+            return Ok(Step::Form);
+        }
         let change = plain(self, &instr.head, operands, locals, state)?;
-        settle(change, operands)
+        let jump = settle(change, operands)?;
+        Ok(Step::done(jump))
     }
 
     fn test(&self, instr: &Node, operands: &Operands<Val>) -> bool

@@ -2,6 +2,7 @@ use Rattle.std.proofs.Common.{◌≡◌, ◌≤◌, sym, subst, arith}
 use Rattle.machine_kit.specs.declared.frame.Flow.TheVariants as flows
 use Rattle.machine_kit.specs.Machines.{Reaches, place_of, flow_after}
 use Rattle.machine_kit.specs.Turning.{Spent}
+use Rattle.machine_kit.proofs.Stretching.{standing}
 use Rattle.machine_kit.proofs.Spending.{spent_none, spent_then}
 use Rattle.machine_kit.proofs.turns.go_on.Goals as goal
 
@@ -10,12 +11,13 @@ returns-in_ok-flow-in-Run-clause-spent g c =
     let v = g.P.Version.acts c.args.version.now in
     let a = place_of c.args.machine.now in
     let glided = c.in_ok-glided-in-Run.glided in
+    let middle = standing glided.code.now c.glide.new.operands c.glide.new.locals a.frames in
     let end = place_of c.advance.new.machine in (
-      c.in_ok-glided-in-Run.ensures.0,
+      c.in_ok-glided-in-Run.ensures.spent.0,
       subst (λ flow. Spent v flow a c.args.state.now c.args.turns glided.used c.in_ok-flow-in-Run.flow end c.advance.new.state) (sym c.in-Run.is)
-          (spent_then v flows.Run (flow_after glided.jump) c.in_ok-flow-in-Run.flow a (place_of c.glide.new.machine) end c.args.state.now c.glide.new.state c.advance.new.state c.args.turns glided.used
-          c.in_ok-glided-in-Run.ensures.1
-          (subst (λ flow. Reaches v flow (place_of c.glide.new.machine) c.glide.new.state c.in_ok-flow-in-Run.flow end c.advance.new.state) c.after.ensures c.in_ok-flow-in-Run.ensures.same)),
+          (spent_then v flows.Run (flow_after glided.jump) c.in_ok-flow-in-Run.flow a middle end c.args.state.now c.glide.new.state c.advance.new.state c.args.turns glided.used
+          c.in_ok-glided-in-Run.ensures.spent.1
+          (subst (λ flow. Reaches v flow middle c.glide.new.state c.in_ok-flow-in-Run.flow end c.advance.new.state) c.after.ensures c.in_ok-flow-in-Run.ensures.same)),
     )
 
 pub returns-in_ok-flow-in_default : goal.returns-in_ok-flow-in_default

@@ -2,7 +2,7 @@ use Rattle.std.proofs.Common.{List, length}
 use Rattle.machine_kit.specs.declared.frame.Frame.{Frame}
 use Rattle.machine_kit.specs.Stretches.{Slides}
 use Rattle.machine_kit.proofs.Stretching.{standing}
-use Rattle.machine_kit.proofs.exec.run_plain.Given as goal
+use Rattle.machine_kit.proofs.plain.run_plain.Given as goal
 
 abbrev pub invariant-loop-instr : goal.invariant-loop-instr
 invariant-loop-instr g l =
