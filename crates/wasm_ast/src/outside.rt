@@ -3,6 +3,7 @@
 ghost use Rattle.std.specs.Prelude.{◌≡◌, ◌+◌, IfOk};
 ghost use Rattle.wasm_ast.specs.Facts.{facts_of};
 ghost use Rattle.wasm_ast.specs.Outside.{outside, outside_by_size, outside_features, first_feature, first_reserved, is_reserved, is_exported_memory, exports_memory};
+ghost use Rattle.wasm_ast.specs.Region.{needs_region};
 
 mod obstacle;
 mod pages;
@@ -14,7 +15,7 @@ use crate::module::{Export, ExportDesc, Module};
 use crate::spaces::imported_memories;
 pub use obstacle::Obstacle;
 use pages::has_too_many_pages;
-use region::{moves_tables, needs_region};
+use region::{moves_tables, needs_region_given};
 use std::alloc::{AllocError, Global};
 
 /// The first of the profile's list that keeps the module outside, if one does; code that cannot be reached is included.
@@ -103,7 +104,7 @@ fn outside_by_size(alloc: Global, m: &Module, facts: &Facts) -> Result<Option<Ob
     ensures { IfOk result (λ found. found ≡ outside_by_size m.now) }
 {
     let moved = moves_tables(alloc, m, facts)?;
-    let region = needs_region(alloc, m, facts, moved)?;
+    let region = needs_region_given(alloc, m, facts, moved)?;
     if exports_memory(m) && region {
         Ok(Some(Obstacle::MemoryMoved))
     } else if has_too_many_pages(m, moved, region) {
@@ -111,6 +112,16 @@ fn outside_by_size(alloc: Global, m: &Module, facts: &Facts) -> Result<Option<Ob
     } else {
         Ok(None)
     }
+}
+
+/// Whether the lowered module keeps tables and memories in one memory of its own, the region, where it is known what the
+/// bodies of the module show. It fails for want of memory alone.
+pub fn needs_region(alloc: Global, m: &Module, facts: &Facts) -> Result<bool, AllocError>
+    requires { facts.now ≡ facts_of m.now }
+    ensures { IfOk result (λ yes. yes ≡ needs_region m.now) }
+{
+    let moved = moves_tables(alloc, m, facts)?;
+    needs_region_given(alloc, m, facts, moved)
 }
 
 /// Whether a memory of the module is exported. An index out of range names none.

@@ -23,7 +23,7 @@ pub fn moves_tables(alloc: Global, m: &Module, facts: &Facts) -> Result<bool, Al
 
 /// Whether the module needs a region, where it is known whether its tables are moved. It fails for want of memory
 /// alone.
-pub fn needs_region(
+pub fn needs_region_given(
     alloc: Global,
     m: &Module,
     facts: &Facts,
