@@ -148,7 +148,8 @@ module _ (p : Module × List TypedFn) (typed : IsTypedTree p) where
     host_at : (u : ℕ) → slice_get m.types u ≡ Some t → slice_get (filter_map (λ i. func_import i.desc) m.imports) x ≡ Some u → Safe m R (hosted (length t.params) (host_call m x) d n c) (hosted (length t.params) (host_call m x) d n c)
     host_at u e there =
         let seen : Plain Val State = record { operands = take (length t.params) c.operands; locals = []; state = c.world.state } in
-        let result = host_call_typed m x u there seen s in
+        let front = subst (λ k. HaveTypes m (made c.world.state) (take k c.operands) (reverse t.params)) (length-reverse t.params) top in
+        let result = host_call_typed m x u there typed.parts t e seen front s in
         let same : results_of (slice_get m.types u) ≡ t.results = ap results_of e in
         safe_done m R (settled c.world (host_call m x seen))
         (subst (CallResultTyped m t.results (made c.world.state)) (sym (plain_settled m c.world (host_call m x seen))) (subst (λ l. CallResultTyped m l (made c.world.state) (host_call m x seen)) same result))

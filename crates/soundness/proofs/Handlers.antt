@@ -1,9 +1,9 @@
 -- Handlers hand on what their labels take, and entries of tables call functions of the type that is asked for.
 use Rattle.std.proofs.Common.{◌≡◌, ℕ, ◌≤◌, Bool, true, false, ◌&&◌, List, [], ◌∷◌, ◌++◌, length, reverse, Option, Some, None, refl, sym, ap, ◌∙◌, subst, arith}
 use Rattle.std.specs.Prelude.{slice_get, find, filter_map, cond}
-use Rattle.std.specs.List.{list_all}
+use Rattle.std.specs.List.{list_all, AllByRecursion}
 use Rattle.std.proofs.lemmas.List.{reverse-append}
-use Rattle.host_kit.specs.Trace.{captured}
+use Rattle.host_kit.specs.Trace.{Captured, captured}
 use Rattle.host_kit.specs.Fits.{RepliesFit}
 use Rattle.wasm_ast.specs.Spaces.{func_import}
 use Rattle.std.proofs.lemmas.Bool.Decides.{nat_tests}
@@ -22,8 +22,8 @@ use Rattle.meaning_new.specs.declared.val.Val.{Val}
 use Rattle.meaning_new.specs.declared.val.Val.TheVariants as vals
 use Rattle.meaning_new.specs.Store.{Store, State, Exception}
 use Rattle.meaning_new.specs.Exceptions.{takes, caught_ref, caught_by, caught, handler}
-use Rattle.soundness.specs.States.{made, Has, HaveTypes, ExceptionTyped, StoreTyped, OnTop, LeftTyped}
-use Rattle.soundness.proofs.Lists.{IfAny, pair_whole, all_get}
+use Rattle.soundness.specs.States.{made, Has, HaveTypes, ExceptionTyped, StoreTyped, MarkTyped, OnTop, LeftTyped}
+use Rattle.soundness.proofs.Lists.{IfAny, pair_whole, all_append, all_get}
 use Rattle.soundness.proofs.Judging.{Ended}
 use Rattle.soundness.proofs.Blocks.{HandlerSafe}
 use Rattle.soundness.proofs.JumpRows.{all_same}
@@ -50,19 +50,23 @@ module _ (m : Module) (c : Context) (ls : List (List Ty)) where
       at (Some label) e h = e ∙ ap (λ z. Some z) (sym (all_same ts label h))
 
   -- what a clause hands on to its label
-  hands : (end : Option (List Ty)) (k e : ℕ) (x : Conf Val State) → LeftTyped m c ls k (Throw e) (plain_of x) → (l : ℕ) (ts : List Ty) (vs : List Val) (s : State) → s.store ≡ x.world.state.store → s.replies ≡ x.world.state.replies → label_takes ls l ts ≡ true → HaveTypes m (made x.world.state) vs (reverse ts) → Ended m c ls end k (taken e (Some (record { jump = Branch l; operands = vs; state = s })) x)
-  hands end k e x h l ts vs s same left fits typed =
+  hands : (end : Option (List Ty)) (k e : ℕ) (x : Conf Val State) → LeftTyped m c ls k (Throw e) (plain_of x) → (l : ℕ) (ts : List Ty) (vs : List Val) (s : State) → s.store ≡ x.world.state.store → s.replies ≡ x.world.state.replies → AllByRecursion (MarkTyped m) s.trace → label_takes ls l ts ≡ true → HaveTypes m (made x.world.state) vs (reverse ts) → Ended m c ls end k (taken e (Some (record { jump = Branch l; operands = vs; state = s })) x)
+  hands end k e x h l ts vs s same left told fits typed =
       let back = ap (λ (t : Store). length t.exceptions) (sym same) in
       record {
         jump = (ts, label_is l ts fits, subst (λ j. OnTop m j vs (reverse ts)) back (pair_whole (Has m (made x.world.state)) vs (reverse ts) typed));
         locals = subst (λ j. HaveTypes m j x.locals c.locals) back h.locals;
-        state = record { store = subst (StoreTyped m) (sym same) h.state.store; replies = subst (λ r. RepliesFit m r (filter_map (λ i. func_import i.desc) m.imports)) (sym left) h.state.replies };
+        state = record {
+          store = subst (StoreTyped m) (sym same) h.state.store;
+          replies = subst (λ r. RepliesFit m r (filter_map (λ i. func_import i.desc) m.imports)) (sym left) h.state.replies;
+          trace = told;
+        };
         extends = subst (λ j. k ≤ j) back h.extends;
       }
 
   hands_ref : (end : Option (List Ty)) (k e : ℕ) (x : Conf Val State) → LeftTyped m c ls k (Throw e) (plain_of x) → (room : Bool) (l : ℕ) (ts : List Ty) (vs : List Val) → label_takes ls l (ts ++ types.Exn ∷ []) ≡ true → HaveTypes m (made x.world.state) vs (reverse ts) → Ended m c ls end k (taken e (caught_ref room e l vs x.world.state) x)
   hands_ref end k e x h true l ts vs fits typed =
-      hands end k e x h l (ts ++ types.Exn ∷ []) (vals.Exn e ∷ vs) _ refl refl fits
+      hands end k e x h l (ts ++ types.Exn ∷ []) (vals.Exn e ∷ vs) _ refl refl (all_append (MarkTyped m) x.world.state.trace (Captured ∷ []) h.state.trace (tt, tt)) fits
       (subst (HaveTypes m (made x.world.state) (vals.Exn e ∷ vs)) (sym (reverse-append ts (types.Exn ∷ []))) (h.jump, typed))
   hands_ref end k e x h false l ts vs fits typed = record { jump = tt; locals = h.locals; state = h.state; extends = h.extends }
 
@@ -78,12 +82,12 @@ module _ (m : Module) (c : Context) (ls : List (List Ty)) where
     by_clause end k e x h y t (Some (catches.Tag tag l)) i =
         let is : y.tag ≡ tag = grind (arith, nat_tests) in
         let payload = payload_is e y (made x.world.state) t (λ ts. label_takes ls l ts) tag is i.0 same in
-        hands end k e x h l payload.0 y.payload x.world.state refl refl payload.1 payload.2
+        hands end k e x h l payload.0 y.payload x.world.state refl refl h.state.trace payload.1 payload.2
     by_clause end k e x h y t (Some (catches.TagRef tag l)) i =
         let is : y.tag ≡ tag = grind (arith, nat_tests) in
         let payload = payload_is e y (made x.world.state) t (λ ts. label_takes ls l (ts ++ types.Exn ∷ [])) tag is i.0 same in
         hands_ref end k e x h (x.world.state.room (captured x.world.state.trace)) l payload.0 y.payload payload.1 payload.2
-    by_clause end k e x h y t (Some (catches.All l)) i = hands end k e x h l [] [] x.world.state refl refl i.0 tt
+    by_clause end k e x h y t (Some (catches.All l)) i = hands end k e x h l [] [] x.world.state refl refl h.state.trace i.0 tt
     by_clause end k e x h y t (Some (catches.AllRef l)) i = hands_ref end k e x h (x.world.state.room (captured x.world.state.trace)) l [] [] i.0 tt
 
     pub handler_safe : (N : ℕ) (end : Option (List Ty)) (clauses : List Catch) → list_all (clause_fits c ls) clauses ≡ true → HandlerSafe m c ls N end (handler clauses)

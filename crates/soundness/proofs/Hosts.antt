@@ -1,9 +1,13 @@
--- What the host of a module does keeps its state typed, and its replies have the results of the functions that are called.
-use Rattle.std.proofs.Common.{◌≡◌, ℕ, ◌≤◌, true, List, [], ◌∷◌, map, reverse, Option, Some, None, option_map, refl, sym, subst, le_refl}
-use Rattle.std.specs.Prelude.{slice_get, set, filter_map}
+-- What the host of a module does keeps its state typed: its replies have the results of the functions that are called, and
+-- it sees arguments of their types.
+use Rattle.std.proofs.Common.{◌≡◌, ℕ, ◌≤◌, true, List, [], ◌∷◌, map, reverse, Option, Some, None, option_map, refl, sym, ap, ◌∙◌, subst, le_refl}
+use Rattle.std.specs.Prelude.{slice_get, set, filter_map, option_and_then}
 use Rattle.std.specs.List.{AllByRecursion}
-use Rattle.host_kit.specs.Fits.{ActFits, SetFits, ReplyFits, RepliesFit, results_of}
+use Rattle.std.proofs.lemmas.List.{reverse-reverse}
+use Rattle.host_kit.specs.Fits.{ActFits, SetFits, ReplyFits, results_of}
 use Rattle.host_kit.specs.Offered.{exported}
+use Rattle.host_kit.specs.Trace.{Shows}
+use Rattle.host_kit.specs.declared.event.Event.{Event}
 use Rattle.host_kit.specs.declared.event.Event.TheVariants as events
 use Rattle.host_kit.specs.declared.script.Act.{Act}
 use Rattle.host_kit.specs.declared.script.Act.TheVariants.{Set, Peek, Poke}
@@ -12,17 +16,21 @@ use Rattle.host_kit.specs.declared.value.Value.{Value}
 use Rattle.wasm_ast.specs.Spaces.{func_import}
 use Rattle.wasm_ast.specs.declared.module.parts.ExportDesc.TheVariants as exports
 use Rattle.wasm_ast.specs.declared.module.parts.Module.{Module}
+use Rattle.wasm_ast.specs.declared.module.ty.FuncType.{FuncType}
+use Rattle.typed_trees.specs.Modules.{TypedParts}
 use Rattle.evaluation_kit.specs.Configurations.{Plain}
 use Rattle.evaluation_kit.specs.Leaves.{read_range, write_range}
 use Rattle.meaning_new.specs.declared.val.Val.{Val}
 use Rattle.meaning_new.specs.Store.{State, Memory, to_host, from_host, tell}
 use Rattle.meaning_new.specs.Memories.{with_bytes}
 use Rattle.meaning_new.specs.Host.{global_values, set_export, exported_memory, told_bytes, peek, told_write, poke, act, acts, replied, host_call}
-use Rattle.soundness.specs.States.{made, Has, StoreTyped, StateTyped, CallResultTyped}
-use Rattle.soundness.proofs.Lists.{pair_get, pair_reverse, pair_replace}
+use Rattle.soundness.specs.Events.{AreShownAs, imported_type, ShownCall}
+use Rattle.soundness.specs.States.{made, Has, HaveTypes, MarkTyped, StateTyped, CallResultTyped}
+use Rattle.soundness.proofs.Lists.{pair_get, pair_reverse, pair_replace, all_append}
 use Rattle.soundness.proofs.Values.{host_typed, all_host_typed}
 use Rattle.soundness.proofs.Stores.{with_globals, with_memory}
 use Rattle.soundness.proofs.Spaces.{global_offered}
+use Rattle.soundness.proofs.Showing.{all_shown, globals_shown}
 
 module _ (m : Module) where
   -- a typed state with as many exceptions
@@ -30,8 +38,8 @@ module _ (m : Module) where
     pub state : StateTyped m s
     pub same : made s ≡ k
 
-  pub told : (s t : State) → t.store ≡ s.store → t.replies ≡ s.replies → StateTyped m s → StateTyped m t
-  told s t e f h = record { store = subst (λ z. StoreTyped m z) (sym e) h.store; replies = subst (λ r. RepliesFit m r (filter_map (λ i. func_import i.desc) m.imports)) (sym f) h.replies }
+  pub told : (s : State) (e : Event) → MarkTyped m (Shows e) → StateTyped m s → StateTyped m (tell e s)
+  told s e t h = record { store = h.store; replies = h.replies; trace = all_append (MarkTyped m) s.trace (Shows e ∷ []) h.trace (t, tt) }
 
   sets : (name : List ℕ) (v : Value) (s : State) → SetFits m name v → StateTyped m s → Acted (made s) (set_export (exported m name) v s)
   sets name v s fit h =
@@ -40,6 +48,7 @@ module _ (m : Module) where
         state = record {
           store = with_globals m s.store fit.index (record { ty = fit.type; mutable = true }) (from_host v) (global_offered m fit.index fit.type fit.mutable) (host_typed m (made s) v fit.type fit.value) h.store;
           replies = h.replies;
+          trace = h.trace;
         };
         same = refl;
       })
@@ -49,16 +58,16 @@ module _ (m : Module) where
   peeks (Some mem) at count s h = bytes (read_range at count mem.bytes)
     where
       bytes : (o : Option (List ℕ)) → Acted (made s) (told_bytes o s)
-      bytes None = record { state = told s _ refl refl h; same = refl }
-      bytes (Some l) = record { state = told s _ refl refl h; same = refl }
+      bytes None = record { state = told s events.OutOfRange tt h; same = refl }
+      bytes (Some l) = record { state = told s (events.Peeked l) tt h; same = refl }
 
   writes : (x at : ℕ) (bytes : List ℕ) (s : State) → StateTyped m s → (o : Option Memory) → slice_get s.store.memories x ≡ o → Acted (made s) (poke (Some (exports.Memory x)) o at bytes s)
   writes x at bytes s h None e = record { state = h; same = refl }
   writes x at bytes s h (Some mem) e = wrote (write_range at bytes mem.bytes)
     where
       wrote : (all : Option (List ℕ)) → Acted (made s) (told_write (option_map (λ l. with_bytes x mem l s.store) all) s)
-      wrote None = record { state = told s _ refl refl h; same = refl }
-      wrote (Some l) = record { state = record { store = with_memory m s.store x mem l e h.store; replies = h.replies }; same = refl }
+      wrote None = record { state = told s events.OutOfRange tt h; same = refl }
+      wrote (Some l) = record { state = record { store = with_memory m s.store x mem l e h.store; replies = h.replies; trace = h.trace }; same = refl }
 
   pub act_typed : (a : Act) (s : State) → ActFits m a → StateTyped m s → Acted (made s) (act m a s)
   act_typed (Set name v) s fit h = sets name v s fit h
@@ -82,16 +91,27 @@ module _ (m : Module) where
     reply_typed s h (reply ∷ more) e fit =
         let left = record s { replies = set s.replies x more } in
         let fewer = pair_replace (λ r u. Fitting r u) s.replies (filter_map (λ i. func_import i.desc) m.imports) x (reply ∷ more) more e (λ u g. g.1) h.replies in
-        let done = acts_typed reply.acts left fit.0.acts (record { store = h.store; replies = fewer }) in
+        let done = acts_typed reply.acts left fit.0.acts (record { store = h.store; replies = fewer; trace = h.trace }) in
         let results = results_of (slice_get m.types t) in (
           pair_reverse (λ v u. Has m (made (acts m reply.acts left)) v u) (map from_host reply.values) results (all_host_typed m (made (acts m reply.acts left)) reply.values results fit.0.values),
           record { state = done.state; extends = subst (λ k. made s ≤ k) (sym done.same) (le_refl (made s)) },
         )
 
-    -- a call of an imported function
-    pub host_call_typed : (p : Plain Val State) → StateTyped m p.state → CallResultTyped m (results_of (slice_get m.types t)) (made p.state) (host_call m x p)
-    host_call_typed p h =
-        let seen = tell (events.HostCall x (map to_host (reverse p.operands)) (global_values m p.state)) p.state in
+    -- a call of an imported function, with arguments of its type
+    call_shown : TypedParts m → (type : FuncType) → slice_get m.types t ≡ Some type → (p : Plain Val State) → HaveTypes m (made p.state) p.operands (reverse type.params) → StateTyped m p.state → ShownCall m (imported_type m x) (global_values m p.state) (λ u. AreShownAs (map to_host (reverse p.operands)) u.params)
+    call_shown parts type declared p top h =
+        let arguments = pair_reverse (Has m (made p.state)) p.operands (reverse type.params) top in
+        record {
+          type = type;
+          named = ap (option_and_then (slice_get m.types)) is ∙ declared;
+          values = all_shown m (made p.state) (reverse p.operands) type.params (subst (HaveTypes m (made p.state) (reverse p.operands)) (reverse-reverse type.params) arguments);
+          globals = globals_shown m parts p.state h;
+        }
+
+    pub host_call_typed : TypedParts m → (type : FuncType) → slice_get m.types t ≡ Some type → (p : Plain Val State) → HaveTypes m (made p.state) p.operands (reverse type.params) → StateTyped m p.state → CallResultTyped m (results_of (slice_get m.types t)) (made p.state) (host_call m x p)
+    host_call_typed parts type declared p top h =
+        let call = events.HostCall x (map to_host (reverse p.operands)) (global_values m p.state) in
+        let seen = tell call p.state in
         let there = pair_get (λ r u. Fitting r u) p.state.replies (filter_map (λ i. func_import i.desc) m.imports) x t is h.replies in
         subst (λ o. CallResultTyped m (results_of (slice_get m.types t)) (made p.state) (replied m x o seen)) (sym there.1)
-        (reply_typed seen (told p.state seen refl refl h) there.0 there.1 there.2)
+        (reply_typed seen (told p.state call (call_shown parts type declared p top h) h) there.0 there.1 there.2)

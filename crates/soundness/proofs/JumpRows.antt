@@ -165,6 +165,7 @@ module _ (m : Module) (c : Context) (ls : List (List Ty)) where
                     (record { type = t; declared = e; payload = have_more m k j later payload (reverse t.params) (pair_take (Has m k) p.operands (reverse t.params) rest h.operands_typed) }, tt);
               };
               replies = h.state.replies;
+              trace = h.state.trace;
             };
             extends = later;
           }

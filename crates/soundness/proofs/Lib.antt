@@ -15,10 +15,13 @@ pub mod Rows
 pub mod Table
 pub mod Nodes
 pub mod Spaces
+pub mod Showing
 pub mod Hosts
 pub mod Functions
 pub mod Constants
 pub mod Beginning
 pub mod Scripts
 pub mod Whole
+pub mod Telling
+pub mod RunEvents
 pub mod Asking

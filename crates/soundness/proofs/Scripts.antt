@@ -1,8 +1,9 @@
 -- The tasks of a script that fits: what asks for types does the same as what does not, and states stay typed.
-use Rattle.std.proofs.Common.{◌≡◌, ℕ, ◌+◌, List, [], ◌∷◌, ◌++◌, map, reverse, Option, Some, None, refl, sym, subst, le_refl}
+use Rattle.std.proofs.Common.{◌≡◌, ℕ, ◌+◌, List, [], ◌∷◌, ◌++◌, map, reverse, Option, Some, None, sym, subst, le_refl}
 use Rattle.std.specs.Prelude.{slice_get}
 use Rattle.std.specs.List.{AllByRecursion}
 use Rattle.host_kit.specs.Fits.{ItemFits, ScriptFits}
+use Rattle.host_kit.specs.declared.event.Event.TheVariants as events
 use Rattle.host_kit.specs.declared.script.Item.{Item}
 use Rattle.host_kit.specs.declared.script.Item.TheVariants.{Call, Host}
 use Rattle.host_kit.specs.declared.script.Script.{Script}
@@ -18,7 +19,8 @@ use Rattle.evaluation_kit.specs.declared.jump.Jump.TheVariants.{Branch, Return, 
 use Rattle.evaluation_kit.specs.Configurations.{World, Conf, PlainRes, Sem}
 use Rattle.evaluation_kit.specs.Tasks.{Status, Task, Change, Enter, placed, plain_result, shown, task, tasks}
 use Rattle.meaning_new.specs.declared.val.Val.{Val}
-use Rattle.meaning_new.specs.Store.{Store, State, Exception, from_host}
+use Rattle.meaning_new.specs.Store.{Store, State, Exception, to_host, from_host}
+use Rattle.meaning_new.specs.Host.{global_values}
 use Rattle.meaning_new.specs.Instances.{place_segments}
 use Rattle.meaning_new.specs.Runs.{instantiated, started, start_task, uncaught, answered, call_task, item_task, item_tasks, run_tasks}
 use Rattle.soundness.specs.States.{made, Has, HaveTypes, StoreTyped, StateTyped, CallResultTyped}
@@ -98,19 +100,19 @@ module _ (m : Module) where
   instantiates parts = record { by = λ s h. at s h (place_segments m s.store) (segments_placed m parts s.store h.store) }
     where
       at : (s : State) → StateTyped m s → (o : Option Store) → IfAny (StoreTyped m) o → StatusTyped (instantiated s o)
-      at s h None t = record { state = told m s _ refl refl h; runs = tt }
-      at s h (Some store) t = record { state = record { store = t; replies = h.replies }; runs = tt }
+      at s h None t = record { state = told m s events.Failed tt h; runs = tt }
+      at s h (Some store) t = record { state = record { store = t; replies = h.replies; trace = h.trace }; runs = tt }
 
   starts : (results : List Ty) → SeesTyped results started
   starts results = record { by = at }
     where
       at : (k : ℕ) (r : PlainRes Val State) → CallResultTyped m results k r → StatusTyped (started r)
       at k (Go p) h = record { state = h.1.state; runs = tt }
-      at k (Leave (NoReply x) p) h = record { state = told m p.state _ refl refl h.1.state; runs = tt }
-      at k (Leave Full p) h = record { state = told m p.state _ refl refl h.1.state; runs = tt }
+      at k (Leave (NoReply x) p) h = record { state = told m p.state (events.NoReply x) tt h.1.state; runs = tt }
+      at k (Leave Full p) h = record { state = told m p.state events.Full tt h.1.state; runs = tt }
       at k (Leave Stuck p) h = absurd h.0
-      at k (Leave Trap p) h = record { state = told m p.state _ refl refl h.1.state; runs = tt }
-      at k (Leave (Throw e) p) h = record { state = told m p.state _ refl refl h.1.state; runs = tt }
+      at k (Leave Trap p) h = record { state = told m p.state events.Failed tt h.1.state; runs = tt }
+      at k (Leave (Throw e) p) h = record { state = told m p.state events.Failed tt h.1.state; runs = tt }
       at k (Leave (Branch i) p) h = absurd h.0
       at k (Leave Return p) h = absurd h.0
       at k (Leave (TailCall f) p) h = absurd h.0
@@ -125,15 +127,15 @@ module _ (m : Module) where
   answers i results = record { by = at }
     where
       escaped : (o : Option Exception) (s : State) → StateTyped m s → StateTyped m (uncaught m i o s)
-      escaped None s h = told m s _ refl refl h
-      escaped (Some x) s h = told m s _ refl refl h
+      escaped None s h = told m s (events.Trapped i (global_values m s)) tt h
+      escaped (Some x) s h = told m s (events.Uncaught i x.tag (map to_host (reverse x.payload)) (global_values m s)) tt h
 
       at : (k : ℕ) (r : PlainRes Val State) → CallResultTyped m results k r → StatusTyped (answered m i r)
-      at k (Go p) h = record { state = told m p.state _ refl refl h.1.state; runs = tt }
-      at k (Leave (NoReply x) p) h = record { state = told m p.state _ refl refl h.1.state; runs = tt }
-      at k (Leave Full p) h = record { state = told m p.state _ refl refl h.1.state; runs = tt }
+      at k (Go p) h = record { state = told m p.state (events.Returned i (map to_host (reverse p.operands)) (global_values m p.state)) tt h.1.state; runs = tt }
+      at k (Leave (NoReply x) p) h = record { state = told m p.state (events.NoReply x) tt h.1.state; runs = tt }
+      at k (Leave Full p) h = record { state = told m p.state events.Full tt h.1.state; runs = tt }
       at k (Leave Stuck p) h = absurd h.0
-      at k (Leave Trap p) h = record { state = told m p.state _ refl refl h.1.state; runs = tt }
+      at k (Leave Trap p) h = record { state = told m p.state (events.Trapped i (global_values m p.state)) tt h.1.state; runs = tt }
       at k (Leave (Throw e) p) h = record { state = escaped (slice_get p.state.store.exceptions e) p.state h.1.state; runs = tt }
       at k (Leave (Branch j) p) h = absurd h.0
       at k (Leave Return p) h = absurd h.0
@@ -151,9 +153,9 @@ module _ (m : Module) where
   item_typed i (Host a) fit = record { by = λ s h. record { state = (act_typed m a s fit h).state; runs = tt } }
 
   items_typed : (i : ℕ) (items : List Item) → AllByRecursion (ItemFits m) items → AllByRecursion TaskTyped (item_tasks m i items)
-  items_typed i [] fit = (record { by = λ s h. record { state = told m s _ refl refl h; runs = tt } }, tt)
+  items_typed i [] fit = (record { by = λ s h. record { state = told m s events.Done tt h; runs = tt } }, tt)
   items_typed i (item ∷ more) fit = (item_typed i item fit.0, items_typed (i + 1) more fit.1)
 
   -- all that the host does
   pub script_typed : TypedParts m → (script : Script) → ScriptFits m script → AllByRecursion TaskTyped (run_tasks m script)
-  script_typed parts script fit = (instantiates parts, start_typed m.start _ parts.start (record { by = λ s h. record { state = told m s _ refl refl h; runs = tt } }, items_typed 0 script.items fit.items))
+  script_typed parts script fit = (instantiates parts, start_typed m.start _ parts.start (record { by = λ s h. record { state = told m s events.Started tt h; runs = tt } }, items_typed 0 script.items fit.items))

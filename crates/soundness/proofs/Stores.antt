@@ -4,6 +4,7 @@ use Rattle.std.specs.Prelude.{slice_get, set, option_and_then}
 use Rattle.std.specs.List.{AllByRecursion}
 use Rattle.std.proofs.lemmas.List.{length-set}
 use Rattle.host_kit.specs.Pairwise.{Pairwise}
+use Rattle.host_kit.specs.Trace.{Grown}
 use Rattle.wasm_ast.specs.declared.module.ty.Ty.{Ty}
 use Rattle.wasm_ast.specs.declared.module.ty.Limits.{Limits}
 use Rattle.wasm_ast.specs.declared.module.parts.Module.{Module}
@@ -12,11 +13,11 @@ use Rattle.typed_trees.specs.Modules.{all_globals, all_tables, all_memories}
 use Rattle.typed_trees.specs.declared.global_type.GlobalType.{GlobalType}
 use Rattle.evaluation_kit.specs.Configurations.{Plain}
 use Rattle.meaning_new.specs.declared.val.Val.{Val}
-use Rattle.meaning_new.specs.Store.{Store, State, Memory, Table, Growth, After, on_store, store_or_trap, on_growth, growth_or_trap, settled_growth, is_granted}
+use Rattle.meaning_new.specs.Store.{Store, State, Memory, Table, Growth, After, on_store, store_or_trap, on_growth, growth_or_trap, settled_growth, is_granted, sizes}
 use Rattle.meaning_new.specs.Memories.{at_memory, with_bytes}
 use Rattle.meaning_new.specs.Tables.{at_table, with_entries, with_global}
-use Rattle.soundness.specs.States.{made, Has, HaveTypes, StoreTyped, PlainTyped, ResultTyped}
-use Rattle.soundness.proofs.Lists.{IfAny, pair_set, pair_get, pair_replace}
+use Rattle.soundness.specs.States.{made, Has, HaveTypes, StoreTyped, MarkTyped, PlainTyped, ResultTyped}
+use Rattle.soundness.proofs.Lists.{IfAny, pair_set, pair_get, pair_replace, all_append}
 use Rattle.soundness.proofs.Judging.{ActSafe}
 
 module _ (m : Module) where
@@ -45,7 +46,7 @@ module _ (m : Module) where
               record {
                 operands_typed = subst (λ k. HaveTypes m k r.0 gives) back w.operands;
                 locals = subst (λ k. HaveTypes m k p.locals c.locals) back t.locals;
-                state = record { store = w.store; replies = t.state.replies };
+                state = record { store = w.store; replies = t.state.replies; trace = t.state.trace };
               },
               subst (λ k. made p.state ≤ k) back (le_refl (made p.state)),
             )
@@ -59,11 +60,26 @@ module _ (m : Module) where
               record {
                 operands_typed = subst (λ k. HaveTypes m k (g.operands true) gives) back (w.operands true);
                 locals = subst (λ k. HaveTypes m k p.locals c.locals) back t.locals;
-                state = record { store = w.larger; replies = t.state.replies };
+                state = record {
+                  store = w.larger;
+                  replies = t.state.replies;
+                  trace = all_append (MarkTyped m) p.state.trace (Grown true (sizes g.larger) ∷ []) t.state.trace (tt, tt);
+                };
               },
               subst (λ k. made p.state ≤ k) back (le_refl (made p.state)),
             )
-        settled p t g w false = (record { operands_typed = w.operands false; locals = t.locals; state = record { store = t.state.store; replies = t.state.replies } }, le_refl (made p.state))
+        settled p t g w false = (
+          record {
+            operands_typed = w.operands false;
+            locals = t.locals;
+            state = record {
+              store = t.state.store;
+              replies = t.state.replies;
+              trace = all_append (MarkTyped m) p.state.trace (Grown false (sizes p.state.store) ∷ []) t.state.trace (tt, tt);
+            };
+          },
+          le_refl (made p.state),
+        )
 
         both : (p : Plain Val State) → PlainTyped m c stack p → (o : Option Growth) → IfAny (GrowthTyped (made p.state) gives) o → ResultTyped m c ls (Some gives) (made p.state) (growth_or_trap p o)
         both p t None w = record { jump = tt; locals = t.locals; state = t.state; extends = le_refl (made p.state) }

@@ -56,8 +56,8 @@ module _ (permits : List ℕ → Bool) (room : ℕ → Bool) (p : Module × List
   abbrev start : World State
   start = record { state = new_state permits room false m script; deepest = 0 }
 
-  begins : StateTyped m start.state
-  begins = record { store = new_store_typed m (all_values m script) (values_typed m script fit typed.parts) typed.parts; replies = fit.replies }
+  pub begins : StateTyped m start.state
+  begins = record { store = new_store_typed m (all_values m script) (values_typed m script fit typed.parts) typed.parts; replies = fit.replies; trace = tt }
 
   both : Safe m (WorldTyped m) (tasks (func (strict_language m p.1)) (run_tasks m script) n start) (tasks (func (node_language m p.1)) (run_tasks m script) n start)
   both = tasks_safe m (func (strict_language m p.1)) (func (node_language m p.1)) (functions_safe p typed) (run_tasks m script) (script_typed m typed.parts script fit) n start begins

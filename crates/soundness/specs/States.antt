@@ -4,6 +4,8 @@ use Rattle.std.specs.Prelude.{◌≡◌, ℕ, ◌≤◌, Bool, true, false, ◌&
 use Rattle.std.specs.List.{AllByRecursion}
 use Rattle.host_kit.specs.Fits.{RepliesFit}
 use Rattle.host_kit.specs.Pairwise.{Pairwise}
+use Rattle.host_kit.specs.Trace.{Mark, Shows}
+use Rattle.host_kit.specs.declared.event.Event.TheVariants.{HostCall}
 use Rattle.wasm_ast.specs.Spaces.{func_indices, func_import}
 use Rattle.wasm_ast.specs.declared.module.ty.Ty.{Ty}
 use Rattle.wasm_ast.specs.declared.module.ty.Ty.TheVariants as types
@@ -18,6 +20,7 @@ use Rattle.evaluation_kit.specs.Configurations.{Plain, PlainRes}
 use Rattle.meaning_new.specs.declared.val.Val.{Val}
 use Rattle.meaning_new.specs.declared.val.Val.TheVariants.{I32, I64, V128, Func, Extern, Exn, Null}
 use Rattle.meaning_new.specs.Store.{Store, State, Exception}
+use Rattle.soundness.specs.Events.{AreShownAs, imported_type, ShownCall}
 
 -- "Values": a value has a type, where there are so many functions and so many exceptions. Numbers and vectors have the
 -- type of their constructor; a reference refers to what is there, or is the null of its type.
@@ -69,10 +72,16 @@ module _ (m : Module) where
     pub datas : length s.datas ≡ length m.datas
     pub exceptions : AllByRecursion (ExceptionTyped (length s.exceptions)) s.exceptions
 
-  -- a typed store, and a host whose replies have the results of the functions that are called
+  -- a call of an imported function is shown with arguments of its type
+  abbrev pub MarkTyped : Mark → Type 0
+  MarkTyped (Shows (HostCall j arguments globals)) = ShownCall m (imported_type m j) globals (λ t. AreShownAs arguments t.params)
+  MarkTyped mark = Unit {0}
+
+  -- a typed store, a host whose replies have the results of the functions that are called, and typed calls of them so far
   pub record StateTyped (s : State) : Type 0 where
     pub store : StoreTyped s.store
     pub replies : RepliesFit m s.replies (filter_map (λ i. func_import i.desc) m.imports)
+    pub trace : AllByRecursion MarkTyped s.trace
 
   -- "Frame Validity": operands of these types, the top first, and locals of the types of the context
   pub record PlainTyped (c : Context) (operands : List Ty) (p : Plain Val State) : Type 0 where
