@@ -15,3 +15,4 @@ pub mod Arms
 pub mod SameParts
 pub mod Linking
 pub mod Shortness
+pub mod InRange

@@ -1,4 +1,5 @@
--- That the lists inside instructions of 1.0 are short ("Vectors" of chapter 2 of 1.0), as a test.
+-- That the lists inside instructions of 1.0 are short ("Vectors" of chapter 2 of 1.0), as a test; and that the constants of a
+-- module are in range.
 use Rattle.std.specs.Prelude.{◌≡◌, Bool, true, ◌&&◌, ◌^◌, nat_lt, List, length}
 use Rattle.std.specs.List.{AllByRecursion, list_all}
 use Rattle.core1_ast.specs.declared.module.code.Instr1.{Instr1}
@@ -6,6 +7,7 @@ use Rattle.core1_ast.specs.declared.module.code.Instr1.TheOpen.{Instr1-F}
 use Rattle.core1_ast.specs.declared.module.code.Instr1.TheFolds.{fold-Instr1}
 use Rattle.core1_ast.specs.declared.module.parts.Module1.{Module1}
 use Rattle.core1_ast.specs.Lengths.{IsShort, IsShortModule}
+use Rattle.ranges_core1.specs.Ranges.{CodeInRange, SegmentInRange}
 
 abbrev pub is_short : {A : Type 0} → List A → Bool
 is_short xs = nat_lt (length xs) (2 ^ 32)
@@ -49,3 +51,10 @@ pub record ListsAreShort (m : Module1) : Type 0 where
   pub elems : IsShort m.elems
   pub codes : IsShort m.codes
   pub datas : IsShort m.datas
+
+-- the constants of the module and its bytes lie in the ranges of their types
+pub record ConstantsInRange (m : Module1) : Type 0 where
+  pub codes : AllByRecursion (λ b. CodeInRange b.code) m.codes
+  pub globals : AllByRecursion (λ g. CodeInRange g.init) m.globals
+  pub elems : AllByRecursion (λ e. CodeInRange e.offset) m.elems
+  pub datas : AllByRecursion SegmentInRange m.datas

@@ -7,6 +7,7 @@ ghost use Rattle.std.specs.Prelude.{◌≡◌, IfOk};
 ghost use Rattle.typed_trees.specs.Typed.{module_of};
 ghost use Rattle.crossing.specs.Modules.{cross};
 ghost use Rattle.core1_ast.specs.Typing.{Typed1};
+ghost use Rattle.ranges_core1.specs.Ranges.{NumbersInRange};
 ghost use Rattle.pass_cross.specs.Crossable.{Crossable};
 ghost use Rattle.pass_cross.specs.Crossed.{IsCrossed};
 
@@ -60,6 +61,8 @@ pub fn cross(alloc: Global, m: &TypedModule) -> Result<Module1, AllocError>
     ensures value { IfOk result (λ out. out ≡ cross (module_of m.now)) }
     // It is typed by the rules of 1.0.
     ensures typed { IfOk result Typed1 }
+    // Its constants, bytes and sizes lie in the ranges of their types.
+    ensures ranges { IfOk result NumbersInRange }
     // It is linked as the module is, and the same to a host under every fitting script.
     ensures crossed { IfOk result (IsCrossed (module_of m.now)) }
 {
