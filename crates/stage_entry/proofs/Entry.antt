@@ -1,4 +1,4 @@
--- Where no entry of the profile's list holds, the module may stand before the first stage.
+-- Where nothing of the profile's list holds, the module may stand before the first stage.
 use Rattle.std.proofs.Common.{◌≡◌, ◌+◌, suc, ◌≤◌, Bool, true, false, cond, ◌||◌, ◌&&◌, not, nat_eq, nat_lt, List, [], ◌∷◌, ◌++◌, length, codes, find, position, Option, Some, None, option_map, refl, arith, ltb-false}
 use Rattle.std.specs.List.{list_any, position_or_len, starts_with}
 use Rattle.std.specs.Option.{option_or}
@@ -8,9 +8,8 @@ use Rattle.wasm_ast.specs.declared.features.kind.Feature.TheVariants as features
 use Rattle.wasm_ast.specs.declared.outside.obstacle.Obstacle.{Obstacle}
 use Rattle.wasm_ast.specs.declared.outside.obstacle.Obstacle.TheVariants as obstacles
 use Rattle.wasm_ast.specs.Has.{has_of}
-use Rattle.wasm_ast.specs.Outside.{outside_features, first_feature, is_reserved, first_reserved, exports_memory, outside_by_size, outside}
+use Rattle.wasm_ast.specs.Outside.{outside_features, first_feature, is_reserved, first_reserved, exports_memory, outside_by_size}
 use Rattle.wasm_ast.specs.Region.{needs_region, has_too_many_pages}
-use Rattle.pass_stack.specs.Profile.{entry_of}
 use Rattle.pass_law.specs.Stages.{needs_stage_region, exports_name}
 use Rattle.stage_entry.specs.Entry.{MayBegin}
 use Rattle.stage_entry.proofs.Wider.{Implies, any_implies}
@@ -19,15 +18,15 @@ use Rattle.stage_entry.proofs.Loads.{room_to_begin}
 
 -- ---- what was looked for and not found
 
-map_none : {A B : Type 0} (f : A → B) (o : Option A) → option_map f o ≡ None → o ≡ None
+pub map_none : {A B : Type 0} (f : A → B) (o : Option A) → option_map f o ≡ None → o ≡ None
 map_none f None e = refl
 map_none f (Some x) e = absurd cc
 
-or_none : {A : Type 0} (a b : Option A) → option_or a b ≡ None → (a ≡ None) × (b ≡ None)
+pub or_none : {A : Type 0} (a b : Option A) → option_or a b ≡ None → (a ≡ None) × (b ≡ None)
 or_none None b e = (refl, e)
 or_none (Some x) b e = absurd cc
 
-some_if : {A : Type 0} (b : Bool) (x : A) → cond b (Some x) None ≡ None → b ≡ false
+pub some_if : {A : Type 0} (b : Bool) (x : A) → cond b (Some x) None ≡ None → b ≡ false
 some_if true x e = absurd cc
 some_if false x e = refl
 
@@ -35,7 +34,7 @@ not_found : {A : Type 0} (p : A → Bool) (b : Bool) (x : A) (xs : List A) → (
 not_found p true x xs h e = absurd cc
 not_found p false x xs h e = h e
 
-none_found : {A : Type 0} (p : A → Bool) (xs : List A) → find p xs ≡ None → list_any p xs ≡ false
+pub none_found : {A : Type 0} (p : A → Bool) (xs : List A) → find p xs ≡ None → list_any p xs ≡ false
 none_found p [] e = refl
 none_found p (x ∷ xs) e = not_found p (p x) x xs (none_found p xs) e
 
@@ -62,7 +61,7 @@ begins_shorter eq (c ∷ front) more (x ∷ xs) e =
     let both : (eq c x ≡ true) × (starts_with eq xs (front ++ more) ≡ true) = and_parts (eq c x) (starts_with eq xs (front ++ more)) e in
     and_from (eq c x) (starts_with eq xs front) both.0 (begins_shorter eq front more xs both.1)
 
-implied_false : (a b : Bool) → Implies a b → b ≡ false → a ≡ false
+pub implied_false : (a b : Bool) → Implies a b → b ≡ false → a ≡ false
 implied_false true b h e = absurd (both_ways b e (h refl))
 implied_false false b h e = refl
 
@@ -82,7 +81,7 @@ may_begin m nothing =
     let sized : Option Obstacle = cond (has_too_many_pages m) (Some obstacles.TooManyPages) None in
     let named : Option Obstacle = option_map obstacles.ReservedName (first_reserved m.exports) in
     let shown : Option Obstacle = option_map obstacles.Feature (first_feature outside_features m) in
-    let inside : (shown ≡ None) × (option_or named (outside_by_size m) ≡ None) = or_none shown (option_or named (outside_by_size m)) (map_none entry_of (outside m) nothing) in
+    let inside : (shown ≡ None) × (option_or named (outside_by_size m) ≡ None) = or_none shown (option_or named (outside_by_size m)) nothing in
     let names : (named ≡ None) × (outside_by_size m ≡ None) = or_none named (outside_by_size m) inside.1 in
     let sizes : (cond (exports_memory m && needs_region m) (Some obstacles.MemoryMoved) None ≡ None) × (sized ≡ None) =
     or_none (cond (exports_memory m && needs_region m) (Some obstacles.MemoryMoved) None) sized names.1 in

@@ -3,3 +3,7 @@ pub mod Regions
 pub mod Pages
 pub mod Loads
 pub mod Entry
+pub mod Covering
+pub mod Reached
+pub mod Cut
+pub mod Inside
