@@ -1,0 +1,14 @@
+pub mod Values
+pub mod Listed
+pub mod Sights
+pub mod Called
+pub mod Links
+pub mod Marked
+pub mod Events
+pub mod Frames
+pub mod Scripts
+pub mod Linked
+pub mod Directions
+pub mod Bodies
+pub mod Cuts
+pub mod ToldApart

@@ -1,0 +1,10 @@
+pub mod Flattening
+pub mod Marks
+pub mod Unmapping
+pub mod Mapping
+pub mod MappedEvents
+pub mod MappedInterface
+pub mod Headline
+pub mod Lowered
+pub mod Cuts
+pub mod Distinct
