@@ -21,15 +21,15 @@ use Rattle.wasm_frame.specs.declared.sections.Version.{Version}
 use Rattle.wasm_frame.specs.declared.sections.Version.TheVariants.{One, Three}
 use Rattle.lower_tool.specs.CommandVerdict.{Refuses}
 use Rattle.lower_tool.specs.Inputs.{ToldScript, WhereScript, ToldInputs, WhereInputs, front}
-use Rattle.lower_tool.specs.Lowering.{Lowers, default_captures}
+use Rattle.lower_tool.specs.Lowering.{Lowers}
 use Rattle.lower_tool.specs.Products.{IfFile, IfPrinted, Makes}
 use Rattle.lower_tool.specs.Runs.{IsScriptWhere, RunsUnder, Runs, RefusesText, RefusesUnder, run_text}
 use Rattle.lower_tool.specs.Verdict.{IsFineToLower, IsValid, IsValid1, IsValid3, RefusesModule1, RefusesModule3}
-use Rattle.lower_tool.specs.Words.{Command, lower, check, run, input_of, script_of}
+use Rattle.lower_tool.specs.Words.{Command, lower, check, run, input_of, script_of, captures_of}
 use Rattle.lower_tool.specs.declared.tool.product.Product.{Product}
 use Rattle.lower_tool.specs.declared.tool.product.Product.TheVariants as products
 use Rattle.lower_tool.specs.declared.verdict.Refusal.{Refusal}
-use Rattle.lower_tool.specs.declared.verdict.Refusal.TheVariants.{TooLarge, Unreadable, Floats, Outside, NotBuiltCore, Part, Body, Script as ScriptFault, DoesNotFit}
+use Rattle.lower_tool.specs.declared.verdict.Refusal.TheVariants.{TooLarge, Unreadable, Floats, Outside, Part, Body, Script as ScriptFault, DoesNotFit}
 use Rattle.lower_tool.proofs.Judging.{refused_map, reads_map}
 use Rattle.lower_tool.proofs.Refusals.{large_file, only_large}
 
@@ -70,7 +70,6 @@ module _ (t : List ℕ) where
     refuses_text (Unreadable f) m h = h
     refuses_text Floats m h = h
     refuses_text (Outside e) m h = h
-    refuses_text NotBuiltCore m h = h
     refuses_text (Part section place) m h = h
     refuses_text (Body place) m h = h
     refuses_text (ScriptFault f) m h = (h.0, text_cases f (cases_lt file_limit (length t)) h.1)
@@ -80,7 +79,7 @@ module _ (t : List ℕ) where
     runs_text trace_of P m h = (h.0, script_where (λ s. Fits m s × P (trace_of m s)) h.1)
 
   refuses_script : (command : Command) (r : Refusal) (b : List ℕ) → Refuses command r b (front t) → Refuses command r b t
-  refuses_script (lower input output) r b h = h
+  refuses_script (lower input output room) r b h = h
   refuses_script (check v input) r b h = h
   refuses_script (run One input script turns) r b h =
       refused_map (Reads one) (RefusesUnder IsValid1 RefusesModule1 ScriptFits1 (front t)) (RefusesUnder IsValid1 RefusesModule1 ScriptFits1 t) (refuses_text IsValid1 RefusesModule1 ScriptFits1) r b h
@@ -118,8 +117,8 @@ printed_map products.Fine P Q f h = f _ h
 printed_map (products.Run shown) P Q f h = f _ h
 
 pub makes_front : (command : Command) (b t : List ℕ) (product : Product) → Makes command (front b) (front t) product → Makes command b t product
-makes_front (lower input output) b t product h =
-    subst (λ (x : List ℕ). IsFineToLower x × IfFile product (λ name written. Lowers default_captures x written)) (whole_of b h.0.0) h
+makes_front (lower input output room) b t product h =
+    subst (λ (x : List ℕ). IsFineToLower x × IfFile product (λ name written. Lowers (captures_of room) x written)) (whole_of b h.0.0) h
 makes_front (check v input) b t product h = subst (IsValid v) (whole_of b (valid_within v (front b) h)) h
 makes_front (run v input script turns) b t product h =
     printed_map product (λ printed. Runs v (front b) (front t) (λ marks. printed ≡ run_text (events (marks turns)))) (λ printed. Runs v b t (λ marks. printed ≡ run_text (events (marks turns))))

@@ -8,7 +8,7 @@ use Rattle.lower_tool.specs.Verdict.{ReadsWhere, RefusedBy}
 use Rattle.lower_tool.specs.declared.verdict.NotFine.{NotFine}
 use Rattle.lower_tool.specs.declared.verdict.NotFine.TheVariants as verdict
 use Rattle.lower_tool.specs.declared.verdict.Refusal.{Refusal}
-use Rattle.lower_tool.specs.declared.verdict.Refusal.TheVariants.{TooLarge, Unreadable, Floats, Outside, NotBuiltCore, Part, Body, Script, DoesNotFit}
+use Rattle.lower_tool.specs.declared.verdict.Refusal.TheVariants.{TooLarge, Unreadable, Floats, Outside, Part, Body, Script, DoesNotFit}
 
 -- ---- a module: a first step, and then what an answer that is told of it gives
 
@@ -41,7 +41,6 @@ module _ {M : Type 0} (Read : List ℕ → Result M ReadFault → Type 0) (one :
   found (Unreadable f) b within h = (Err f, h.1, refl)
   found Floats b within h = (Ok h.1.0, h.1.1, h.1.2)
   found (Outside e) b within h = (Ok h.1.0, h.1.1, h.1.2)
-  found NotBuiltCore b within h = (Ok h.1.0, h.1.1, h.1.2)
   found (Part section place) b within h = (Ok h.1.0, h.1.1, h.1.2)
   found (Body place) b within h = (Ok h.1.0, h.1.1, h.1.2)
   found (Script f) b within h = (Ok h.1.0, h.1.1, h.1.2)
@@ -52,7 +51,6 @@ module _ {M : Type 0} (Read : List ℕ → Result M ReadFault → Type 0) (one :
   large (Unreadable f) b big h = absurd (omega (arith, big, h.0))
   large Floats b big h = absurd (omega (arith, big, h.0))
   large (Outside e) b big h = absurd (omega (arith, big, h.0))
-  large NotBuiltCore b big h = absurd (omega (arith, big, h.0))
   large (Part section place) b big h = absurd (omega (arith, big, h.0))
   large (Body place) b big h = absurd (omega (arith, big, h.0))
   large (Script f) b big h = absurd (omega (arith, big, h.0))
@@ -84,7 +82,6 @@ module _ {M : Type 0} (Read : List ℕ → Result M ReadFault → Type 0) (one :
   of_module large unread b m (verdict.Refused (Unreadable f)) within reads h = absurd (unread f m h)
   of_module large unread b m (verdict.Refused Floats) within reads h = (within, (m, reads, h))
   of_module large unread b m (verdict.Refused (Outside e)) within reads h = (within, (m, reads, h))
-  of_module large unread b m (verdict.Refused NotBuiltCore) within reads h = (within, (m, reads, h))
   of_module large unread b m (verdict.Refused (Part section place)) within reads h = (within, (m, reads, h))
   of_module large unread b m (verdict.Refused (Body place)) within reads h = (within, (m, reads, h))
   of_module large unread b m (verdict.Refused (Script f)) within reads h = (within, (m, reads, h))
@@ -105,7 +102,6 @@ refused_map Read A B f TooLarge b h = h
 refused_map Read A B f (Unreadable fault) b h = h
 refused_map Read A B f Floats b h = (h.0, (h.1.0, h.1.1, f Floats h.1.0 h.1.2))
 refused_map Read A B f (Outside e) b h = (h.0, (h.1.0, h.1.1, f (Outside e) h.1.0 h.1.2))
-refused_map Read A B f NotBuiltCore b h = (h.0, (h.1.0, h.1.1, f NotBuiltCore h.1.0 h.1.2))
 refused_map Read A B f (Part section place) b h = (h.0, (h.1.0, h.1.1, f (Part section place) h.1.0 h.1.2))
 refused_map Read A B f (Body place) b h = (h.0, (h.1.0, h.1.1, f (Body place) h.1.0 h.1.2))
 refused_map Read A B f (Script fault) b h = (h.0, (h.1.0, h.1.1, f (Script fault) h.1.0 h.1.2))

@@ -23,7 +23,9 @@ use Rattle.read_new.proofs.Owed.{three_laws}
 use Rattle.core1_bytes.specs.Made as old
 use Rattle.core1_bytes.specs.Spells.{one}
 use Rattle.core1_bytes.proofs.Payloads as old_payloads
-use Rattle.pass_stack.specs.Profile.{outside_profile}
+use Rattle.pass_stack.specs.Profile.{outside_profile, outside_stack}
+use Rattle.pass_stack.specs.declared.outside.Outside.{Outside as Entry}
+use Rattle.typed_trees.specs.Modules.{IsTyped}
 use Rattle.valid_core1.proofs.Unique as laws1
 use Rattle.valid_core1.specs.Verdict as typing1
 use Rattle.valid_core1.specs.declared.invalid.Invalid.{Invalid as Invalid1}
@@ -32,15 +34,16 @@ use Rattle.valid_mod.proofs.Unique as laws3
 use Rattle.valid_mod.specs.Verdict as typing3
 use Rattle.valid_mod.specs.declared.invalid.Invalid.{Invalid as Invalid3}
 use Rattle.valid_mod.specs.declared.invalid.Invalid.TheVariants as invalid3
-use Rattle.lower_tool.specs.CoreFiles.{SpellsCore}
 use Rattle.lower_tool.specs.Stops.{IfNotFine}
 use Rattle.lower_tool.specs.CommandVerdict.{IsFine, Refuses, IsRefusal}
+use Rattle.lower_tool.specs.Lowering.{IsWrittenFor, Lowers}
 use Rattle.lower_tool.specs.Runs.{RunsUnder, Runs, CanRun, RefusesUnder, RefusesToRun}
-use Rattle.lower_tool.specs.Verdict.{CanLower, RefusesLowering, IsValid1, IsValid3, RefusesModule1, RefusesModule3, IsFineToLower, RefusesToLower, IsValid, RefusesAsInvalid, text_of}
+use Rattle.lower_tool.specs.Verdict.{IsValidBy, IsUntypedAt, RefusesBy, CanLower, RefusesLowering, IsValid1, IsValid3, RefusesModule1, RefusesModule3, IsFineToLower, RefusesToLower, IsValid, RefusesAsInvalid, text_of}
 use Rattle.lower_tool.specs.Words.{Command, lower, check, run}
 use Rattle.lower_tool.specs.declared.verdict.NotFine.{NotFine}
+use Rattle.lower_tool.specs.declared.verdict.NotFine.TheVariants as verdict
 use Rattle.lower_tool.specs.declared.verdict.Refusal.{Refusal}
-use Rattle.lower_tool.specs.declared.verdict.Refusal.TheVariants.{TooLarge, Unreadable, Floats, Outside, NotBuiltCore, Part, Body, Script, DoesNotFit}
+use Rattle.lower_tool.specs.declared.verdict.Refusal.TheVariants.{TooLarge, Unreadable, Floats, Outside, Part, Body, Script, DoesNotFit}
 use Rattle.lower_tool.proofs.Judging as judging
 use Rattle.lower_tool.proofs.ScriptVerdicts as scripts
 
@@ -51,47 +54,7 @@ one_answer3 = shared.one_answer three new.means three_laws
 one_answer1 : (b : List ℕ) (r s : Result Module1 ReadFault) → Reads one b r → Reads one b s → r ≡ s
 one_answer1 = shared.one_answer one old.means old_payloads.laws
 
--- ---- a module of 3.0 that is to be lowered: the profile, and then whether it is a core module
-
-abbrev first3 : Module → Option Refusal
-first3 m = option_map Outside (outside_profile m)
-
-module _ (b : List ℕ) where
-  abbrev IsNoCore : Module → Unit {0} → Type 0
-  IsNoCore m u = ¬ (SpellsCore b m)
-
-  same_unit : (m : Module) (r s : Unit {0}) → IsNoCore m r → IsNoCore m s → r ≡ s
-  same_unit m r s h k = refl
-
-  abbrev no_core : Unit {0} → Option Refusal
-  no_core u = Some NotBuiltCore
-
-  judged_lower : (r : Refusal) (m : Module) → RefusesLowering b r m → judging.Judged first3 IsNoCore same_unit no_core r m
-  judged_lower TooLarge m h = absurd h
-  judged_lower (Unreadable f) m h = absurd h
-  judged_lower Floats m h = absurd h
-  judged_lower (Outside e) m h = inl (sym (ap (option_map Outside) h))
-  judged_lower NotBuiltCore m h = inr (ap (option_map Outside) h.0, (tt, h.1, refl))
-  judged_lower (Part section place) m h = absurd h
-  judged_lower (Body place) m h = absurd h
-  judged_lower (Script f) m h = absurd h
-  judged_lower DoesNotFit m h = absurd h
-
-  lower_single : (r s : Refusal) (m : Module) → RefusesLowering b r m → RefusesLowering b s m → r ≡ s
-  lower_single r s m h k = judging.one_judged first3 IsNoCore same_unit no_core r s m (judged_lower r m h) (judged_lower s m k)
-
-  lower_apart : (r : Refusal) (m : Module) → RefusesLowering b r m → CanLower b m → ⊥
-  lower_apart (Outside e) m h fine = let both : Some e ≡ None = sym h ∙ fine.0 in absurd cc
-  lower_apart NotBuiltCore m h fine = h.1 fine.1
-  lower_apart TooLarge m h fine = h
-  lower_apart (Unreadable f) m h fine = h
-  lower_apart Floats m h fine = h
-  lower_apart (Part section place) m h fine = h
-  lower_apart (Body place) m h fine = h
-  lower_apart (Script f) m h fine = h
-  lower_apart DoesNotFit m h fine = h
-
--- ---- a module of 3.0 that is checked: the profile, and then typing
+-- ---- a module of 3.0: a list, and then typing
 
 abbrev refusal_of3 : Result (Unit {0}) Invalid3 → Option Refusal
 refusal_of3 (Ok done) = None
@@ -99,22 +62,51 @@ refusal_of3 (Err (invalid3.Part section place)) = Some (Part section place)
 refusal_of3 (Err (invalid3.Body place)) = Some (Body place)
 refusal_of3 (Err (invalid3.Memory e)) = None
 
-judged3 : (r : Refusal) (m : Module) → RefusesModule3 r m → judging.Judged first3 typing3.Settles laws3.one_answer refusal_of3 r m
-judged3 TooLarge m h = absurd h
-judged3 (Unreadable f) m h = absurd h
-judged3 Floats m h = absurd h
-judged3 (Outside e) m h = inl (sym (ap (option_map Outside) h))
-judged3 NotBuiltCore m h = absurd h
-judged3 (Part section place) m h = inr (ap (option_map Outside) h.0, (Err (invalid3.Part section place), h.1, refl))
-judged3 (Body place) m h = inr (ap (option_map Outside) h.0, (Err (invalid3.Body place), h.1, refl))
-judged3 (Script f) m h = absurd h
-judged3 DoesNotFit m h = absurd h
+module _ (list : Module → Option Entry) where
+  abbrev first3 : Module → Option Refusal
+  first3 m = option_map Outside (list m)
+
+  judged3 : (r : Refusal) (m : Module) → RefusesBy list r m → judging.Judged first3 typing3.Settles laws3.one_answer refusal_of3 r m
+  judged3 TooLarge m h = absurd h.1
+  judged3 (Unreadable f) m h = absurd h.1
+  judged3 Floats m h = absurd h.1
+  judged3 (Outside e) m h = inl (sym (ap (option_map Outside) h))
+  judged3 (Part section place) m h = inr (ap (option_map Outside) h.0, (Err (invalid3.Part section place), h.1, refl))
+  judged3 (Body place) m h = inr (ap (option_map Outside) h.0, (Err (invalid3.Body place), h.1, refl))
+  judged3 (Script f) m h = absurd h.1
+  judged3 DoesNotFit m h = absurd h.1
+
+  single_by : (r s : Refusal) (m : Module) → RefusesBy list r m → RefusesBy list s m → r ≡ s
+  single_by r s m h k = judging.one_judged first3 typing3.Settles laws3.one_answer refusal_of3 r s m (judged3 r m h) (judged3 s m k)
+
+  apart_by : (r : Refusal) (m : Module) → RefusesBy list r m → IsValidBy list m → ⊥
+  apart_by r m h fine = judging.judged_apart first3 typing3.Settles laws3.one_answer refusal_of3 r m (Ok tt) (judged3 r m h) (ap (option_map Outside) fine.0) fine.1 refl
+
+  -- a module of which no entry of the list holds, by what typing says of it
+  refused_by : (m : Module) (r : Refusal) → list m ≡ None → IsUntypedAt r m → RefusesBy list r m
+  refused_by m (Part section place) none h = (none, h)
+  refused_by m (Body place) none h = (none, h)
+  refused_by m TooLarge none h = absurd h
+  refused_by m (Unreadable f) none h = absurd h
+  refused_by m Floats none h = absurd h
+  refused_by m (Outside e) none h = absurd h
+  refused_by m (Script f) none h = absurd h
+  refused_by m DoesNotFit none h = absurd h
+
+  pub untyped_by : {X : Type 0} (m : Module) (r : Result X NotFine) → list m ≡ None → IfErr r (λ e. IfNotFine e (λ refusal. IsUntypedAt refusal m)) → IfErr r (λ e. IfNotFine e (λ refusal. RefusesBy list refusal m))
+  untyped_by m (Ok x) none h = tt
+  untyped_by m (Err (verdict.Refused refusal)) none h = refused_by m refusal none h
+  untyped_by m (Err (verdict.Memory e)) none h = tt
+
+  pub typed_by : {X : Type 0} (m : Module) (r : Result X NotFine) → list m ≡ None → OnOk r (IsTyped m) → OnOk r (IsValidBy list m)
+  typed_by m (Ok x) none h = (none, h)
+  typed_by m (Err e) none h = tt
 
 single3 : (r s : Refusal) (m : Module) → RefusesModule3 r m → RefusesModule3 s m → r ≡ s
-single3 r s m h k = judging.one_judged first3 typing3.Settles laws3.one_answer refusal_of3 r s m (judged3 r m h) (judged3 s m k)
+single3 = single_by outside_profile
 
 apart3 : (r : Refusal) (m : Module) → RefusesModule3 r m → IsValid3 m → ⊥
-apart3 r m h fine = judging.judged_apart first3 typing3.Settles laws3.one_answer refusal_of3 r m (Ok tt) (judged3 r m h) (ap (option_map Outside) fine.0) fine.1 refl
+apart3 = apart_by outside_profile
 
 -- ---- a module of 1.0 that is checked: floats, and then typing
 
@@ -132,7 +124,6 @@ judged1 TooLarge m h = absurd h
 judged1 (Unreadable f) m h = absurd h
 judged1 Floats m h = inl (sym (ap (λ t. cond t (Some Floats) None) h))
 judged1 (Outside e) m h = absurd h
-judged1 NotBuiltCore m h = absurd h
 judged1 (Part section place) m h = inr (ap (λ t. cond t (Some Floats) None) h.0, (Err (invalid1.Part section place), h.1, refl))
 judged1 (Body place) m h = inr (ap (λ t. cond t (Some Floats) None) h.0, (Err (invalid1.Body place), h.1, refl))
 judged1 (Script f) m h = absurd h
@@ -146,14 +137,14 @@ apart1 r m h fine = judging.judged_apart first1 typing1.Settles laws1.one_answer
 
 -- ---- from the module to the file
 
-pub lower_refused : {X : Type 0} (b : List ℕ) (m : Module) (r : Result X NotFine) → length b ≤ file_limit → Reads three b (Ok m) → IfErr r (λ e. IfNotFine e (λ refusal. RefusesLowering b refusal m)) → IfErr r (λ e. IfNotFine e (λ refusal. RefusesToLower refusal b))
-lower_refused b m r within reads h = judging.refused_of_module (Reads three) one_answer3 (RefusesLowering b) (λ m no. no) (λ f m no. no) b m r within reads h
+pub lower_refused : {X : Type 0} (b : List ℕ) (m : Module) (r : Result X NotFine) → length b ≤ file_limit → Reads three b (Ok m) → IfErr r (λ e. IfNotFine e (λ refusal. RefusesLowering refusal m)) → IfErr r (λ e. IfNotFine e (λ refusal. RefusesToLower refusal b))
+lower_refused b m r within reads h = judging.refused_of_module (Reads three) one_answer3 RefusesLowering (λ m no. no.1) (λ f m no. no.1) b m r within reads h
 
-pub lower_fine : {X : Type 0} (b : List ℕ) (m : Module) (r : Result X NotFine) → length b ≤ file_limit → Reads three b (Ok m) → OnOk r (CanLower b m) → OnOk r (IsFineToLower b)
-lower_fine b m r within reads h = judging.fine_of_module (Reads three) (CanLower b) b m r within reads h
+pub lower_fine : {X : Type 0} (b : List ℕ) (m : Module) (r : Result X NotFine) → length b ≤ file_limit → Reads three b (Ok m) → OnOk r (CanLower m) → OnOk r (IsFineToLower b)
+lower_fine b m r within reads h = judging.fine_of_module (Reads three) CanLower b m r within reads h
 
 pub refused3 : (b : List ℕ) (m : Module) (r : Result (Unit {0}) NotFine) → length b ≤ file_limit → Reads three b (Ok m) → IfErr r (λ e. IfNotFine e (λ refusal. RefusesModule3 refusal m)) → IfErr r (λ e. IfNotFine e (λ refusal. RefusesAsInvalid Three refusal b))
-refused3 b m r within reads h = judging.refused_of_module (Reads three) one_answer3 RefusesModule3 (λ m no. no) (λ f m no. no) b m r within reads h
+refused3 b m r within reads h = judging.refused_of_module (Reads three) one_answer3 RefusesModule3 (λ m no. no.1) (λ f m no. no.1) b m r within reads h
 
 pub fine3 : (b : List ℕ) (m : Module) (r : Result (Unit {0}) NotFine) → length b ≤ file_limit → Reads three b (Ok m) → OnOk r (IsValid3 m) → OnOk r (IsValid Three b)
 fine3 b m r within reads h = judging.fine_of_module (Reads three) IsValid3 b m r within reads h
@@ -189,7 +180,12 @@ module _ (t : List ℕ) where
   refused_run1 b m r within reads h = judging.refused_of_module (Reads one) one_answer1 Refuses1 (λ m no. no) (λ f m no. no) b m r within reads h
 
   pub refused_run3 : {X : Type 0} (b : List ℕ) (m : Module) (r : Result X NotFine) → length b ≤ file_limit → Reads three b (Ok m) → IfErr r (λ e. IfNotFine e (λ refusal. Refuses3 refusal m)) → IfErr r (λ e. IfNotFine e (λ refusal. RefusesToRun Three refusal b t))
-  refused_run3 b m r within reads h = judging.refused_of_module (Reads three) one_answer3 Refuses3 (λ m no. no) (λ f m no. no) b m r within reads h
+  refused_run3 b m r within reads h = judging.refused_of_module (Reads three) one_answer3 Refuses3 (λ m no. no.1) (λ f m no. no.1) b m r within reads h
+
+-- the bytes that are written are those of a lowering of what the bytes spell
+pub lowers_bytes : (b : List ℕ) (m : Module) (captures : ℕ) (r : Result (List ℕ) NotFine) → Reads three b (Ok m) → IfOk r (IsWrittenFor captures m) → IfOk r (Lowers captures b)
+lowers_bytes b m captures (Ok out) reads h = (m, reads.0, h)
+lowers_bytes b m captures (Err e) reads h = tt
 
 pub shown_run1 : {X : Type 0} (b t : List ℕ) (m : Module1) (r : Result X NotFine) (Q : X → (ℕ → List Mark) → Type 0) → length b ≤ file_limit → Reads one b (Ok m) → IfOk r (λ x. RunsUnder IsValid1 ScriptFits1 trace1 t (Q x) m) → IfOk r (λ x. Runs One b t (Q x))
 shown_run1 b t m (Ok x) Q within reads h = (within, (m, reads, h))
@@ -225,13 +221,13 @@ one_shown v b t turns shown other h k =
 -- ---- what a command reads
 
 pub not_fine : (command : Command) (refusal : Refusal) (b t : List ℕ) → Refuses command refusal b t → IsFine command b t → ⊥
-not_fine (lower input output) refusal b t refused fine = judging.not_fine_by (Reads three) one_answer3 (RefusesLowering b) (CanLower b) (lower_apart b) refusal b refused fine
+not_fine (lower input output room) refusal b t refused fine = judging.not_fine_by (Reads three) one_answer3 RefusesLowering CanLower (apart_by outside_stack) refusal b refused fine
 not_fine (check One input) refusal b t refused fine = judging.not_fine_by (Reads one) one_answer1 RefusesModule1 IsValid1 apart1 refusal b refused fine
 not_fine (check Three input) refusal b t refused fine = judging.not_fine_by (Reads three) one_answer3 RefusesModule3 IsValid3 apart3 refusal b refused fine
 not_fine (run v input script turns) refusal b t refused fine = run_not_fine t v refusal b refused fine
 
 one_refusal : (command : Command) (b t : List ℕ) (r s : Refusal) → Refuses command r b t → Refuses command s b t → r ≡ s
-one_refusal (lower input output) b t r s first second = judging.one_refusal_by (Reads three) one_answer3 (RefusesLowering b) (lower_single b) b r s first second (cases_lt file_limit (length b))
+one_refusal (lower input output room) b t r s first second = judging.one_refusal_by (Reads three) one_answer3 RefusesLowering (single_by outside_stack) b r s first second (cases_lt file_limit (length b))
 one_refusal (check One input) b t r s first second = judging.one_refusal_by (Reads one) one_answer1 RefusesModule1 single1 b r s first second (cases_lt file_limit (length b))
 one_refusal (check Three input) b t r s first second = judging.one_refusal_by (Reads three) one_answer3 RefusesModule3 single3 b r s first second (cases_lt file_limit (length b))
 one_refusal (run v input script turns) b t r s first second = run_refusal t v b r s first second
@@ -246,7 +242,7 @@ text_not_fine command b t text refusal fine = not_fine command refusal.0 b t ref
 
 -- a file that is too large is so for every command, and for nothing else
 pub large_file : (command : Command) (b t : List ℕ) → file_limit < length b → Refuses command TooLarge b t
-large_file (lower input output) b t large = large
+large_file (lower input output room) b t large = large
 large_file (check One input) b t large = large
 large_file (check Three input) b t large = large
 large_file (run One input script turns) b t large = large

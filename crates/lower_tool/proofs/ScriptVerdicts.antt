@@ -13,7 +13,7 @@ use Rattle.lower_tool.specs.Stops.{IfNotFine, of_script}
 use Rattle.lower_tool.specs.declared.verdict.NotFine.{NotFine}
 use Rattle.lower_tool.specs.declared.verdict.NotFine.TheVariants as verdict
 use Rattle.lower_tool.specs.declared.verdict.Refusal.{Refusal}
-use Rattle.lower_tool.specs.declared.verdict.Refusal.TheVariants.{TooLarge, Unreadable, Floats, Outside, NotBuiltCore, Part, Body, Script as ScriptFault, DoesNotFit}
+use Rattle.lower_tool.specs.declared.verdict.Refusal.TheVariants.{TooLarge, Unreadable, Floats, Outside, Part, Body, Script as ScriptFault, DoesNotFit}
 
 module _ (text : List ℕ) where
   one_reading : (a b : Result Script (List ℕ)) → Reads text a → Reads text b → a ≡ b
@@ -89,7 +89,6 @@ module _ {M : Type 0} (Is : M → Type 0) (Refuses : Refusal → M → Type 0) (
   step_of (Unreadable f) m h = inl h
   step_of Floats m h = inl h
   step_of (Outside e) m h = inl h
-  step_of NotBuiltCore m h = inl h
   step_of (Part section place) m h = inl h
   step_of (Body place) m h = inl h
   step_of (ScriptFault f) m h = inr (h.0, (Err f, h.1, refl))
@@ -125,7 +124,6 @@ module _ {M : Type 0} (Is : M → Type 0) (Refuses : Refusal → M → Type 0) (
   module_refusal none_text none_fit (verdict.Refused (Unreadable f)) m h = h
   module_refusal none_text none_fit (verdict.Refused Floats) m h = h
   module_refusal none_text none_fit (verdict.Refused (Outside e)) m h = h
-  module_refusal none_text none_fit (verdict.Refused NotBuiltCore) m h = h
   module_refusal none_text none_fit (verdict.Refused (Part section place)) m h = h
   module_refusal none_text none_fit (verdict.Refused (Body place)) m h = h
   module_refusal none_text none_fit (verdict.Refused (ScriptFault f)) m h = absurd (none_text f m h)

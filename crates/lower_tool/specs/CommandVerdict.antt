@@ -6,13 +6,13 @@ use Rattle.lower_tool.specs.Words.{Command, lower, check, run}
 use Rattle.lower_tool.specs.declared.verdict.Refusal.{Refusal}
 
 abbrev pub IsFine : Command → List ℕ → List ℕ → Type 0
-IsFine (lower input output) bytes text = IsFineToLower bytes
+IsFine (lower input output room) bytes text = IsFineToLower bytes
 IsFine (check version input) bytes text = IsValid version bytes
 IsFine (run version input script turns) bytes text = CanRun version bytes text
 
 -- this is the step that refuses them
 abbrev pub Refuses : Command → Refusal → List ℕ → List ℕ → Type 0
-Refuses (lower input output) refusal bytes text = RefusesToLower refusal bytes
+Refuses (lower input output room) refusal bytes text = RefusesToLower refusal bytes
 Refuses (check version input) refusal bytes text = RefusesAsInvalid version refusal bytes
 Refuses (run version input script turns) refusal bytes text = RefusesToRun version refusal bytes text
 

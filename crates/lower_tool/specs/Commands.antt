@@ -5,6 +5,6 @@ use Rattle.lower_tool.specs.Words.{Command, lower, check, run}
 
 -- the command with its names
 abbrev pub command_of : Given → Command
-command_of (given.Lower input output) = lower input.now output.now
+command_of (given.Lower input output room) = lower input.now output.now room
 command_of (given.Check version input) = check version input.now
 command_of (given.Run version input script turns) = run version input.now script.now turns

@@ -4,15 +4,15 @@ use Rattle.host_kit.specs.Trace.{events}
 use Rattle.lower_tool.specs.declared.running.Shown.{Shown}
 use Rattle.lower_tool.specs.declared.tool.product.Product.{Product}
 use Rattle.lower_tool.specs.declared.tool.product.Product.TheVariants.{File, Fine, Run}
-use Rattle.lower_tool.specs.Lowering.{Lowers, default_captures}
+use Rattle.lower_tool.specs.Lowering.{Lowers}
 use Rattle.lower_tool.specs.Runs.{Runs, run_text, running_line}
 use Rattle.lower_tool.specs.Statuses.{line}
 use Rattle.lower_tool.specs.Verdict.{IsFineToLower, IsValid}
-use Rattle.lower_tool.specs.Words.{Command, lower, check, run}
+use Rattle.lower_tool.specs.Words.{Command, lower, check, run, captures_of}
 
 -- what is made is a file under the name of the output, the line `ok`, or what is shown of a run
 abbrev pub IsFor : Command → Product → Type 0
-IsFor (lower input output) (File name written) = name.now ≡ output
+IsFor (lower input output room) (File name written) = name.now ≡ output
 IsFor (check version input) Fine = ⊤
 IsFor (run version input script turns) (Run shown) = ⊤
 IsFor _ _ = ⊥
@@ -34,7 +34,8 @@ IfPrinted (Run shown) P = P (text_of shown)
 -- it is made of these bytes and of this text of a script: a file has the bytes of a lowering, and the text of a run is that of
 -- its events
 abbrev pub Makes : Command → List ℕ → List ℕ → Product → Type 0
-Makes (lower input output) bytes text product = IsFineToLower bytes × IfFile product (λ name written. Lowers default_captures bytes written)
+Makes (lower input output room) bytes text product =
+    IsFineToLower bytes × IfFile product (λ name written. Lowers (captures_of room) bytes written)
 Makes (check version input) bytes text product = IsValid version bytes
 Makes (run version input script turns) bytes text product =
     IfPrinted product (λ printed. Runs version bytes text (λ marks. printed ≡ run_text (events (marks turns))))

@@ -3,7 +3,7 @@ use Rattle.std.specs.Prelude.{◌≡◌, ℕ, ◌+◌, ◌≤◌, List, [], ◌�
 use Rattle.std.specs.Io.KnownBytes.{Appends, Consumes}
 use Rattle.tool_files.specs.Causes.{Rose}
 use Rattle.tool_files.specs.Held.{Contents, Sets, WhereTold}
-use Rattle.lower_tool.specs.Lowering.{Lowers, default_captures}
+use Rattle.lower_tool.specs.Lowering.{Lowers}
 use Rattle.module_reading.specs.Limits.{file_limit}
 use Rattle.lower_tool.specs.Verdict.{IsFineToLower}
 
@@ -34,9 +34,9 @@ LeavesFront held now name bytes =
     (front : List ℕ) × IsFrontOf front bytes × ((now ≡ held) ⊎ Sets held now name front)
 
 -- the output is as before or holds a front of a lowering of the input, which is fine, and each other file is as before
-pub record CutShort (held now : Option Contents) (input output : List ℕ) : Type 0 where
+pub record CutShort (held now : Option Contents) (input output : List ℕ) (captures : ℕ) : Type 0 where
   pub lowered : List ℕ
-  pub lowers : WhereTold held input (λ bytes. IsFineToLower bytes × Lowers default_captures bytes lowered)
+  pub lowers : WhereTold held input (λ bytes. IsFineToLower bytes × Lowers captures bytes lowered)
   pub leaves : LeavesFront held now output lowered
 
 -- what was taken is the front of what was left, and no more than one byte past the limit

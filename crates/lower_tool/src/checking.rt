@@ -1,20 +1,23 @@
-// The verdict on the module of a file that is checked or run, in either version.
+// The verdict on the module of a file, in either version.
 
 ghost use Rattle.std.specs.Prelude.{◌≡◌, ◌≤◌, length, None, IfErr, IfOk, OnOk};
 ghost use Rattle.wasm_ast.specs.Counts.{Agrees};
 ghost use Rattle.wasm_frame.specs.declared.sections.Version.TheVariants as versions;
 ghost use Rattle.lower_tool.specs.Stops.{IfNotFine};
 ghost use Rattle.module_reading.specs.Limits.{file_limit};
-ghost use Rattle.lower_tool.specs.Verdict.{IsValid, IsValid1, IsValid3, RefusesAsInvalid, RefusesModule1, RefusesModule3};
-ghost use Rattle.pass_stack.specs.Profile.{outside_profile};
+ghost use Rattle.lower_tool.specs.Verdict.{IsValid, IsValid1, IsValid3, IsUntypedAt, CanLower, RefusesAsInvalid, RefusesModule1, RefusesModule3, RefusesLowering};
+ghost use Rattle.pass_stack.specs.Profile.{outside_profile, outside_stack};
+ghost use Rattle.typed_trees.specs.Modules.{IsTyped};
 ghost use Rattle.typed_trees.specs.Typed.{module_of};
 ghost use Rattle.valid_mod.specs.Meaning.{SameRuns};
+ghost use Rattle.valid_mod.specs.Standing.{StandsFor};
 
 use crate::verdict::{NotFine, Refusal};
 use core1_ast::floats::has_floats;
 use core1_ast::module::Module1;
 use core1_bytes::read1;
-use pass_stack::outside_profile;
+use pass_law::Settings;
+use pass_stack::{outside_profile, profile};
 use read_new::read;
 use std::alloc::Global;
 use typed_trees::TypedModule;
@@ -102,6 +105,33 @@ pub fn type3(alloc: Global, source: &Module) -> Result<TypedModule, NotFine>
     ensures refused { IfErr result (λ fault. IfNotFine fault (λ refusal. RefusesModule3 refusal source.now)) }
 {
     check_profile(alloc, source)?;
+    type_source(alloc, source)
+}
+
+/// The same of a module that is to be lowered: one with what no pass takes yet is refused too.
+pub fn type_to_lower(
+    alloc: Global,
+    source: &Module,
+    settings: &Settings,
+) -> Result<TypedModule, NotFine>
+    requires { Agrees source.now }
+    ensures stands { IfOk result (StandsFor source.now) }
+    ensures runs { IfOk result (λ typed. SameRuns source.now (module_of typed)) }
+    ensures fine { OnOk result (CanLower source.now) }
+    ensures refused { IfErr result (λ fault. IfNotFine fault (λ refusal. RefusesLowering refusal source.now)) }
+{
+    check_stack(alloc, source, settings)?;
+    type_source(alloc, source)
+}
+
+/// A module of 3.0 with its types, whichever list it was held against.
+fn type_source(alloc: Global, source: &Module) -> Result<TypedModule, NotFine>
+    requires { Agrees source.now }
+    ensures stands { IfOk result (StandsFor source.now) }
+    ensures runs { IfOk result (λ typed. SameRuns source.now (module_of typed)) }
+    ensures fine { OnOk result (IsTyped source.now) }
+    ensures refused { IfErr result (λ fault. IfNotFine fault (λ refusal. IsUntypedAt refusal source.now)) }
+{
     match validate(alloc, source) {
         Ok(typed) => Ok(typed),
         Err(invalid) => Err(NotFine::from(invalid)),
@@ -114,6 +144,17 @@ fn check_profile(alloc: Global, source: &Module) -> Result<(), NotFine>
     ensures refused { IfErr result (λ fault. IfNotFine fault (λ refusal. RefusesModule3 refusal source.now)) }
 {
     match outside_profile(alloc, source)? {
+        Some(entry) => Err(NotFine::Refused(Refusal::Outside(entry))),
+        None => Ok(()),
+    }
+}
+
+/// The same, and one with what no pass takes yet.
+fn check_stack(alloc: Global, source: &Module, settings: &Settings) -> Result<(), NotFine>
+    ensures fine { OnOk result (outside_stack source.now ≡ None) }
+    ensures refused { IfErr result (λ fault. IfNotFine fault (λ refusal. RefusesLowering refusal source.now)) }
+{
+    match profile(alloc, source, settings)? {
         Some(entry) => Err(NotFine::Refused(Refusal::Outside(entry))),
         None => Ok(()),
     }

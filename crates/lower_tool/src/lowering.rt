@@ -1,65 +1,63 @@
-// From the bytes of a core module of 3.0 to the bytes of a module of 1.0.
+// From the bytes of a module of 3.0 to the bytes of a module of 1.0.
 
-ghost use Rattle.std.specs.Prelude.{◌≡◌, ℕ, ◌≤◌, length, IfOk, IfErr, OnOk};
-ghost use Rattle.wasm_frame.specs.declared.sections.Version.TheVariants.{Three};
-ghost use Rattle.read_new.specs.Spells.{Spells};
-ghost use Rattle.lower_tool.specs.Core.{IsCore};
-ghost use Rattle.lower_tool.specs.Lowering.{IsWrittenFor, Lowers, default_captures};
+ghost use Rattle.std.specs.Prelude.{◌≡◌, ◌≤◌, length, None, IfOk, IfErr, OnOk};
+ghost use Rattle.lower_tool.specs.Lowering.{IsWrittenFor, Lowers};
 ghost use Rattle.lower_tool.specs.Stops.{IfNotFine};
-ghost use Rattle.module_reading.specs.Limits.{file_limit};
 ghost use Rattle.lower_tool.specs.Verdict.{CanLower, RefusesLowering, IsFineToLower, RefusesToLower};
+ghost use Rattle.module_reading.specs.Limits.{file_limit};
+ghost use Rattle.pass_stack.specs.Profile.{outside_stack};
+ghost use Rattle.typed_trees.specs.Typed.{module_of};
+ghost use Rattle.wasm_ast.specs.Counts.{Agrees};
 
-mod code;
-mod module;
-
-use crate::core_file::is_core_file;
-use crate::verdict::{NotFine, Refusal};
+use crate::checking::type_to_lower;
+use crate::verdict::NotFine;
 use core1_bytes::write1;
-use module::lower_core;
-use module_reading::File;
 use num_core::lists::Bytes;
-use pass_stack::outside_profile;
-use read_new::read_file;
+use pass_law::Settings;
+use pass_stack::lower_module;
+use read_new::read;
 use std::alloc::{AllocError, Global};
+use typed_trees::TypedModule;
 use wasm_ast::module::Module;
-use wasm_frame::sections::Version;
 
-/// The lowered module. It takes the bytes of a core module that lies in the profile, and refuses all others by the first
-/// step of the verdict that holds.
-pub fn lower_bytes(alloc: Global, bytes: &[u8]) -> Result<Bytes, NotFine>
-    requires { length bytes.now ≤ file_limit }
-    ensures lowered { IfOk result (λ out. Lowers default_captures bytes.now out) }
-    ensures fine { OnOk result (IsFineToLower bytes.now) }
-    ensures refused { IfErr result (λ fault. IfNotFine fault (λ refusal. RefusesToLower refusal bytes.now)) }
+/// The lowered module, with room for so many captured exceptions. It takes the bytes of a module that lies in the profile,
+/// that passes take and that is typed, and refuses all others by the first step of the verdict that holds. What it has read
+/// is dropped as soon as it is not needed any more.
+pub fn lower_bytes(alloc: Global, bytes: Bytes, captures: u32) -> Result<Bytes, NotFine>
+    requires limit { length bytes ≤ file_limit }
+    requires least { 1 ≤ captures }
+    requires most { captures ≤ 16384 }
+    ensures lowered { IfOk result (Lowers captures bytes) }
+    ensures fine { OnOk result (IsFineToLower bytes) }
+    ensures refused { IfErr result (λ fault. IfNotFine fault (λ refusal. RefusesToLower refusal bytes)) }
 {
-    let file = File::open(alloc, bytes, Version::Three)?;
-    let source = read_file(alloc, &file)?;
-    lower_file(alloc, &file, &source)
+    let source = read(alloc, bytes.as_slice())?;
+    drop(bytes);
+    lower_source(alloc, source, Settings { captures })
 }
 
-/// The same of a file and the module that it is read as.
-fn lower_file(alloc: Global, file: &File<'_>, source: &Module) -> Result<Bytes, NotFine>
-    requires version { file.now.version ≡ Three }
-    requires spells { Spells file.now.bytes source.now }
-    ensures lowered { IfOk result (λ out. Lowers default_captures file.now.bytes out) }
-    ensures fine { OnOk result (CanLower file.now.bytes source.now) }
-    ensures refused { IfErr result (λ fault. IfNotFine fault (λ refusal. RefusesLowering file.now.bytes refusal source.now)) }
+/// The same of the module that was read.
+fn lower_source(alloc: Global, source: Module, settings: Settings) -> Result<Bytes, NotFine>
+    requires counts { Agrees source }
+    requires least { 1 ≤ settings.captures }
+    requires most { settings.captures ≤ 16384 }
+    ensures lowered { IfOk result (IsWrittenFor settings.captures source) }
+    ensures fine { OnOk result (CanLower source) }
+    ensures refused { IfErr result (λ fault. IfNotFine fault (λ refusal. RefusesLowering refusal source)) }
 {
-    if let Some(entry) = outside_profile(alloc, source)? {
-        return Err(NotFine::Refused(Refusal::Outside(entry)));
-    }
-    if !is_core_file(alloc, file, source)? {
-        return Err(NotFine::Refused(Refusal::NotBuiltCore));
-    }
-    Ok(write_lowered(alloc, source)?)
+    let typed = type_to_lower(alloc, &source, &settings)?;
+    drop(source);
+    Ok(write_lowered(alloc, typed, settings)?)
 }
 
-/// The bytes of the lowered module of a core module. It fails for want of memory alone.
-fn write_lowered(alloc: Global, source: &Module) -> Result<Bytes, AllocError>
-    requires { IsCore source.now }
-    ensures { IfOk result (λ written. (captures : ℕ) → IsWrittenFor captures source.now written) }
+/// The bytes of what the passes make of a typed module. It fails for want of memory alone.
+fn write_lowered(alloc: Global, typed: TypedModule, settings: Settings) -> Result<Bytes, AllocError>
+    requires profile { outside_stack (module_of typed) ≡ None }
+    requires least { 1 ≤ settings.captures }
+    requires most { settings.captures ≤ 16384 }
+    ensures { IfOk result (IsWrittenFor settings.captures (module_of typed)) }
 {
-    let output = lower_core(alloc, source)?;
-    let written = write1(alloc, &output)?;
-    Ok(written)
+    let lowered = lower_module(alloc, &typed, &settings)?;
+    drop(typed);
+    write1(alloc, &lowered)
 }

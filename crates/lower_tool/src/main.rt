@@ -2,7 +2,6 @@
 #![tactic(auto)]
 
 mod checking;
-mod core_file;
 pub mod files;
 pub mod laws;
 pub mod lowering;

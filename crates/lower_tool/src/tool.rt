@@ -7,13 +7,13 @@ ghost use Rattle.tool_files.specs.Held.{Told, WhereTold};
 ghost use Rattle.core1_ast.specs.Typing.{Typed1};
 ghost use Rattle.core1_ast.specs.declared.module.parts.Module1.{Module1};
 ghost use Rattle.core1_bytes.specs.Spells.{Spells1};
+ghost use Rattle.headline.specs.Headline.{Same};
+ghost use Rattle.headline.specs.MappedInterface.{SameInterface};
 ghost use Rattle.host_kit.specs.Trace.{events};
+ghost use Rattle.read_new.specs.Spells.{Spells};
 ghost use Rattle.wasm_ast.specs.declared.module.parts.Module.{Module};
 ghost use Rattle.lower_tool.specs.CommandVerdict.{IsFine, IsRefusal};
-ghost use Rattle.lower_tool.specs.CoreFiles.{SpellsCore};
-ghost use Rattle.lower_tool.specs.Headline.{Same};
 ghost use Rattle.lower_tool.specs.Inputs.{CanBegin, ToldInputs, WhereInputs, TakesInput};
-ghost use Rattle.lower_tool.specs.MappedInterface.{SameInterface};
 ghost use Rattle.lower_tool.specs.Runs.{Runs, run_text};
 ghost use Rattle.lower_tool.specs.Statuses.{Prints, AppendsFront, Lowered, CutShort, line};
 ghost use Rattle.lower_tool.specs.Stops.{line_of, status_of};
@@ -40,6 +40,7 @@ use std::alloc::Global;
 pub use stop::Stop;
 
 /// Runs the command that the words are, and gives its status.
+#[tactic(auto, using(crate::proofs::Rooms::has_room))]
 pub fn tool<F: Files, S: Sink>(alloc: Global, words: &Texts, files: &mut F, out: &mut S) -> u8
     requires { IfWords words.now (λ command. CanBegin (F.can_begin files.old) command) }
 
@@ -49,8 +50,8 @@ pub fn tool<F: Files, S: Sink>(alloc: Global, words: &Texts, files: &mut F, out:
     // The headline: the input is fine, and the output spells a module that the rules of 1.0 type, that has the input's
     // imports and exports and no others, and that shows what the input's module shows, for every fitting script and
     // number of turns, in at most 4 d + 16 live frames.
-    ensures lowered { result ≡ 0 → IfLower words.now (Lowered (F.holds files.old) (F.holds files.new)
-        (λ bytes written. (m : Module) × SpellsCore bytes m × ((m1 : Module1) × Spells1 written m1 × Typed1 m1 × SameInterface m m1 × Same 4 16 m m1 4096))) }
+    ensures lowered { result ≡ 0 → IfLower words.now (λ input output captures. Lowered (F.holds files.old) (F.holds files.new)
+        (λ bytes written. (m : Module) × Spells bytes m × ((m1 : Module1) × Spells1 written m1 × Typed1 m1 × SameInterface m m1 × Same 4 16 m m1 captures)) input output) }
     ensures valid { result ≡ 0 → IfCheck words.now (λ version input. WhereTold (F.holds files.old) input (IsValid version)) }
     // The module is valid, the script fits it, and what is printed is the text of the events that the meaning gives.
     ensures runs { result ≡ 0 → IfRun words.now (λ version input script turns. WhereTold (F.holds files.old) input (λ bytes. WhereTold (F.holds files.old) script (λ text.
@@ -61,19 +62,19 @@ pub fn tool<F: Files, S: Sink>(alloc: Global, words: &Texts, files: &mut F, out:
         → ¬ Rose (F.read_faults files.old) (F.read_faults files.new) → (result ≡ 1) ⊎ (result ≡ 5)) }
     ensures read { result ≡ 3 → Rose (F.read_faults files.old) (F.read_faults files.new) }
 
-    ensures written { result ≡ 4 → IfLower words.now (λ input output. Rose (F.write_faults files.old) (F.write_faults files.new)) }
+    ensures written { result ≡ 4 → IfLower words.now (λ input output captures. Rose (F.write_faults files.old) (F.write_faults files.new)) }
     ensures cut { result ≡ 4 → IfLower words.now (CutShort (F.holds files.old) (F.holds files.new)) }
     ensures printed { result ≡ 4 → IfPrinting words.now (λ command. Rose (S.faults out.old) (S.faults out.new)) }
     ensures cut_line { result ≡ 4 → IfCheck words.now (λ version input. AppendsFront (S.written out.old) (S.written out.new) (line (codes "ok"))) }
     ensures cut_run { result ≡ 4 → IfRun words.now (λ version input script turns. WhereTold (F.holds files.old) input (λ bytes. WhereTold (F.holds files.old) script (λ text.
         Runs version bytes text (λ marks. AppendsFront (S.written out.old) (S.written out.new) (run_text (events (marks turns))))))) }
 
-    ensures complete { IfLower words.now (λ input output. Told (F.holds files.old) input IsFineToLower
+    ensures complete { IfLower words.now (λ input output captures. Told (F.holds files.old) input IsFineToLower
         → ¬ Rose (F.read_faults files.old) (F.read_faults files.new) → ¬ Rose (F.write_faults files.old) (F.write_faults files.new) → (result ≡ 0) ⊎ (result ≡ 5)) }
     ensures complete_printing { IfPrinting words.now (λ command. ToldInputs (F.holds files.old) command (IsFine command)
         → ¬ Rose (F.read_faults files.old) (F.read_faults files.new) → ¬ Rose (S.faults out.old) (S.faults out.new) → (result ≡ 0) ⊎ (result ≡ 5)) }
 
-    ensures silent { (result ≡ 0) ⊎ (result ≡ 4) → IfLower words.now (λ input output. out.new ≡ out.old) }
+    ensures silent { (result ≡ 0) ⊎ (result ≡ 4) → IfLower words.now (λ input output captures. out.new ≡ out.old) }
     ensures prints_ok { result ≡ 0 → IfCheck words.now (λ version input. Appends (S.written out.old) (S.written out.new) (line (codes "ok"))) }
     ensures prints_usage { result ≡ 2 → Prints (S.written out.old) (S.written out.new) (S.faults out.old) (S.faults out.new) (line (codes "usage")) }
     ensures prints_read { result ≡ 3 → Prints (S.written out.old) (S.written out.new) (S.faults out.old) (S.faults out.new) (line (codes "cannot read")) }

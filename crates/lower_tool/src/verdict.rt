@@ -22,10 +22,9 @@ pub enum Refusal {
     Unreadable(ReadFault),
     /// Floats occur in the module of 1.0.
     Floats,
-    /// The module of 3.0 lies outside the profile, by this entry of its list.
+    /// The module of 3.0 lies outside the profile, by this entry of its list; the last entries are those of what is not
+    /// built, for a module that is to be lowered.
     Outside(Outside),
-    /// The module lies in the profile, and is no core module of 3.0.
-    NotBuiltCore,
     /// Of the parts of the module, the first that is not typed: the id of its section, and its place in that section.
     Part(u8, u32),
     /// All parts are typed, and the body at this place in the code section is the first that is not.
@@ -45,7 +44,6 @@ impl fmt::Display for Refusal {
             Refusal::Unreadable(fault) => write!(f, "{fault}"),
             Refusal::Floats => write!(f, "outside: floats"),
             Refusal::Outside(entry) => write!(f, "outside: {entry}"),
-            Refusal::NotBuiltCore => write!(f, "outside: not built core"),
             Refusal::Part(section, index) => write!(f, "invalid: part {section} {index}"),
             Refusal::Body(place) => write!(f, "invalid: body {place}"),
             Refusal::Script(fault) => write!(f, "{fault}"),

@@ -5,7 +5,8 @@ ghost use Rattle.module_reading.specs.Limits.{file_limit};
 
 use crate::rows::{ENTRIES, UNBUILT};
 use module_reading::FILE_LIMIT;
-use pass_stack::{Outside, Settings, outside_profile, profile};
+use pass_law::Settings;
+use pass_stack::{Outside, outside_profile, profile};
 use read_new::read;
 use std::alloc::{AllocError, Global};
 use std::test::Fail;

@@ -10,7 +10,7 @@ type Item = (u8, &'static [u8]);
 
 /// The entries in their order, by the front of their texts, and items by which each holds beside the items of any other.
 /// Index 9 is out of range.
-static ENTRIES: [(&str, &[Item]); 27] = [
+static ENTRIES: [(&str, &[Item]); 25] = [
     ("floats", &[(1, b"\x60\x01\x7D\x00")]),
     ("wide table", &[(4, b"\x6F\x04\x00")]),
     ("table initialiser", &[(4, b"\x40\x00\x70\x00\x00\x0B")]),
@@ -39,22 +39,15 @@ static ENTRIES: [(&str, &[Item]); 27] = [
         &[(5, b"\x00\x00"), (5, b"\x00\x00"), (7, b"\x01m\x02\x00")],
     ),
     ("too many pages", &[(5, b"\x00\x81\x80\x04")]),
-    (
-        "not built sign",
-        &[(3, b"\x00"), (10, b"\x06\x00\x41\x00\xC0\x1A\x0B")],
-    ),
+    // An exported immutable global, whose value does not fold.
     (
         "not built constants",
-        &[(6, b"\x7F\x00\x41\x01\x41\x02\x6A\x0B")],
-    ),
-    ("not built multi", &[(1, b"\x60\x00\x02\x7F\x7F")]),
-    (
-        "not built typed select",
         &[
-            (3, b"\x00"),
-            (10, b"\x0C\x00\x41\x00\x41\x00\x41\x00\x1C\x01\x7F\x1A\x0B"),
+            (6, b"\x7F\x00\x41\x01\x41\x02\x71\x0B"),
+            (7, b"\x01g\x03\x00"),
         ],
     ),
+    ("not built multi", &[(1, b"\x60\x00\x02\x7F\x7F")]),
     (
         "not built simd",
         &[(3, b"\x00"), (10, b"\x06\x00\x00\xFD\x0E\x1A\x0B")],

@@ -304,19 +304,40 @@ pub static ENTRIES: [(&str, &[u8]); 81] = [
     ),
 ];
 
-/// Each feature that no pass removes yet.
-pub static UNBUILT: [(&str, &[u8]); 14] = [
+/// Each feature that no pass removes yet, and what is built beside it.
+pub static UNBUILT: [(&str, &[u8]); 20] = [
+    // Sign extension.
     (
-        "not built sign",
+        "",
         b"\x01\x04\x01`\x00\x00\x03\x02\x01\x00\x0A\x08\x01\x06\x00A\x00\xC0\x1A\x0B",
+    ),
+    // An initial value that folds, exported; one that does not, not exported, and in a mutable global that is.
+    (
+        "",
+        b"\x06\x09\x01\x7F\x00A\x01A\x02j\x0B\x07\x05\x01\x01g\x03\x00",
+    ),
+    ("", b"\x06\x09\x01\x7F\x00A\x01A\x02q\x0B"),
+    (
+        "",
+        b"\x06\x09\x01\x7F\x01A\x01A\x02q\x0B\x07\x05\x01\x01g\x03\x00",
+    ),
+    // An immutable one that is, alone and behind an imported global, which may be exported.
+    (
+        "not built constants",
+        b"\x06\x09\x01\x7F\x00A\x01A\x02q\x0B\x07\x05\x01\x01g\x03\x00",
     ),
     (
         "not built constants",
-        b"\x06\x09\x01\x7F\x00A\x01A\x02j\x0B",
+        b"\x02\x08\x01\x01e\x01i\x03\x7F\x00\x06\x09\x01\x7F\x00#\x00A\x02j\x0B\x07\x05\x01\x01g\x03\x01",
+    ),
+    (
+        "",
+        b"\x02\x08\x01\x01e\x01i\x03\x7F\x00\x06\x09\x01\x7F\x00#\x00A\x02j\x0B\x07\x05\x01\x01g\x03\x00",
     ),
     ("not built multi", b"\x01\x06\x01`\x00\x02\x7F\x7F"),
+    // A typed select.
     (
-        "not built typed select",
+        "",
         b"\x01\x04\x01`\x00\x00\x03\x02\x01\x00\x0A\x0E\x01\x0C\x00A\x00A\x00A\x00\x1C\x01\x7F\x1A\x0B",
     ),
     (
@@ -343,6 +364,11 @@ pub static UNBUILT: [(&str, &[u8]); 14] = [
     ),
     ("not built wide memory", b"\x05\x03\x01\x04\x00"),
     ("not built memories", b"\x05\x05\x02\x00\x00\x00\x00"),
+    // One memory, with a data segment at a computed offset.
+    (
+        "not built memories",
+        b"\x02\x08\x01\x01e\x01i\x03\x7F\x00\x05\x03\x01\x00\x00\x0B\x0A\x01\x00#\x00A\x01j\x0B\x01a",
+    ),
     // Nothing of these.
     (
         "",

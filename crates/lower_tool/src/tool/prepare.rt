@@ -5,8 +5,9 @@ ghost use Rattle.lower_tool.specs.Commands.{command_of};
 ghost use Rattle.lower_tool.specs.Inputs.{CanBegin, WhereInputs, TakesInput};
 ghost use Rattle.lower_tool.specs.Products.{IsFor, Makes};
 ghost use Rattle.lower_tool.specs.Stops.{IfRefused, IfNotFine};
+ghost use Rattle.lower_tool.specs.Words.{HasRoom};
 
-use super::command::Command;
+use super::command::{Command, captures_of};
 use super::input::{Inputs, read_inputs};
 use super::product::Product;
 use super::stop::Stop;
@@ -24,7 +25,8 @@ pub fn prepare<'a, F: Files>(
     command: Command<'a>,
     files: &mut F,
 ) -> Result<Product<'a>, Stop>
-    requires { CanBegin (F.can_begin files.old) (command_of command) }
+    requires begins { CanBegin (F.can_begin files.old) (command_of command) }
+    requires room { HasRoom (command_of command) }
     ensures fits { IfOk result (IsFor (command_of command.entry)) }
     ensures makes { IfOk result (λ product. WhereInputs (F.holds files.old) (command_of command.entry) (λ bytes text. Makes (command_of command.entry) bytes text product)) }
     ensures refused { IfErr result (λ stop. IfRefused stop (λ refusal. WhereInputs (F.holds files.old) (command_of command.entry) (Refuses (command_of command.entry) refusal))) }
@@ -42,6 +44,7 @@ pub fn prepare<'a, F: Files>(
 
 /// What a command makes of what it has read.
 fn make<'a>(alloc: Global, command: Command<'a>, inputs: Inputs) -> Result<Product<'a>, NotFine>
+    requires { HasRoom (command_of command) }
     ensures fits { IfOk result (IsFor (command_of command.entry)) }
     ensures makes { IfOk result (Makes (command_of command.entry) inputs.bytes inputs.text) }
     ensures refused { IfErr result (λ fault. IfNotFine fault (λ refusal. Refuses (command_of command.entry) refusal inputs.bytes inputs.text)) }
@@ -51,8 +54,9 @@ fn make<'a>(alloc: Global, command: Command<'a>, inputs: Inputs) -> Result<Produ
         return Err(NotFine::Refused(Refusal::TooLarge));
     }
     match command {
-        Command::Lower(_, output) => {
-            Ok(Product::File(output, lower_bytes(alloc, bytes.as_slice())?))
+        Command::Lower(_, output, room) => {
+            let captures = captures_of(room);
+            Ok(Product::File(output, lower_bytes(alloc, bytes, captures)?))
         }
         Command::Check(version, _) => {
             check_bytes(alloc, version, bytes.as_slice())?;

@@ -18,8 +18,8 @@ use Rattle.lower_tool.proofs.tool.tool.Goals as goal
 -- ---- the words are no command
 
 pub returns-in_default-clause-complete : goal.returns-in_default-clause-complete
-returns-in_default-clause-complete g c = λ input output words fine reads writes.
-    absurd (c.in_default.ensures (lower input output, subst (λ (w : List (List ℕ)). Say w (lower input output)) (sym c.as_slice.ensures) words))
+returns-in_default-clause-complete g c = λ input output room words fine reads writes.
+    absurd (c.in_default.ensures (lower input output room, subst (λ (w : List (List ℕ)). Say w (lower input output room)) (sym c.as_slice.ensures) words))
 
 pub returns-in_default-clause-complete_printing : goal.returns-in_default-clause-complete_printing
 returns-in_default-clause-complete_printing g c = λ command prints words fine reads writes.
@@ -28,22 +28,22 @@ returns-in_default-clause-complete_printing g c = λ command prints words fine r
 -- ---- what was made is handed out
 
 pub returns-in-Ok-clause-lowered : goal.returns-in-Ok-clause-lowered
-returns-in-Ok-clause-lowered g c = λ status input output words.
+returns-in-Ok-clause-lowered g c = λ status input output room words.
     let held = g.F.Files.holds c.args.files.now in
     let now = g.F.Files.holds c.deliver.new.files in
     let product = c.in-Ok.product in
-    let same = same_command c.as_slice.result.now c.args.words.now (command_of c.in-Some.command) (lower input output) c.as_slice.ensures c.in-Some.ensures words in
+    let same = same_command c.as_slice.result.now c.args.words.now (command_of c.in-Some.command) (lower input output room) c.as_slice.ensures c.in-Some.ensures words in
     let made = subst (λ (d : Command). Made d held product) same (record { is_for = c.in-Ok.ensures.fits; makes = c.in-Ok.ensures.makes }) in
-    lowers held now input output product made (subst (λ h. IfFile product (Sets h now)) c.in-Ok.ensures.held (c.deliver.ensures.file status))
+    lowers held now input output room product made (subst (λ h. IfFile product (Sets h now)) c.in-Ok.ensures.held (c.deliver.ensures.file status))
 
 pub returns-in-Ok-clause-cut : goal.returns-in-Ok-clause-cut
-returns-in-Ok-clause-cut g c = λ status input output words.
+returns-in-Ok-clause-cut g c = λ status input output room words.
     let held = g.F.Files.holds c.args.files.now in
     let now = g.F.Files.holds c.deliver.new.files in
     let product = c.in-Ok.product in
-    let same = same_command c.as_slice.result.now c.args.words.now (command_of c.in-Some.command) (lower input output) c.as_slice.ensures c.in-Some.ensures words in
+    let same = same_command c.as_slice.result.now c.args.words.now (command_of c.in-Some.command) (lower input output room) c.as_slice.ensures c.in-Some.ensures words in
     let made = subst (λ (d : Command). Made d held product) same (record { is_for = c.in-Ok.ensures.fits; makes = c.in-Ok.ensures.makes }) in
-    cuts held now input output product made (subst (λ h. IfFile product (LeavesFront h now)) c.in-Ok.ensures.held (c.deliver.ensures.cut_file status))
+    cuts held now input output room product made (subst (λ h. IfFile product (LeavesFront h now)) c.in-Ok.ensures.held (c.deliver.ensures.cut_file status))
 
 pub returns-in-Ok-clause-runs : goal.returns-in-Ok-clause-runs
 returns-in-Ok-clause-runs g c = λ status version input script turns words.
@@ -81,10 +81,10 @@ returns-in-Err-clause-refused g c = λ status.
     (command, subst (λ (w : List (List ℕ)). Say w command) c.as_slice.ensures c.in-Some.ensures, (text_of why.0, told_text command held why.0 why.2, prints))
 
 pub returns-in-Err-clause-complete : goal.returns-in-Err-clause-complete
-returns-in-Err-clause-complete g c = λ input output words fine reads writes.
+returns-in-Err-clause-complete g c = λ input output room words fine reads writes.
     let command = command_of c.in-Some.command in
     let held = g.F.Files.holds c.args.files.now in
-    let same = same_command c.as_slice.result.now c.args.words.now command (lower input output) c.as_slice.ensures c.in-Some.ensures words in
+    let same = same_command c.as_slice.result.now c.args.words.now command (lower input output room) c.as_slice.ensures c.in-Some.ensures words in
     let told = subst (λ (d : Command). ToldInputs held d (IsFine d)) (sym same) fine in
     fine_stops command held c.in-Err.stop c.report.result c.in-Err.ensures.refused (λ e. reads (c.in-Err.ensures.read (ap (λ stop. Err stop) e))) c.report.ensures.status told
 
