@@ -21,3 +21,8 @@ pub mod Segments
 pub mod Scripts
 pub mod Interfaces
 pub mod Example
+pub mod Sequences
+pub mod Blocks
+pub mod Calls
+pub mod Instructions
+pub mod Tasks

@@ -3,3 +3,4 @@ pub mod Modules
 pub mod States
 pub mod Crossing
 pub mod Interfaces
+pub mod InStep
