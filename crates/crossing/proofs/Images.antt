@@ -50,7 +50,7 @@ second-cross o = ap top1 (below-map cross_value o) ∙ first-cross (below o)
 pub twice-below : (o : List Val) → below (below (map cross_value o)) ≡ map cross_value (below (below o))
 twice-below o = ap below (below-map cross_value o) ∙ below-map cross_value (below o)
 
--- the mirror: turn for turn, with no more calls
+-- the mirror, turn for turn
 abbrev pub M : Mirror Val State Val1 State1
 M = mapping true false 0 (Unit {0}) (λ p o. Unit {0}) keeps cross_value (λ f. f) cross_state
 

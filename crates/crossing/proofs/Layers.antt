@@ -1,23 +1,19 @@
--- Each instruction that 1.0 has is simulated by the instruction that it becomes.
-use Rattle.std.proofs.Common.{◌≡◌, ℕ, Bool, true, false, List, [], ◌∷◌, map, Option, Some, None, option_map, refl, sym, ap, ◌∙◌, subst, if◌then◌else◌}
-use Rattle.std.specs.Prelude.{slice_get, option_and_then, flat_map}
+-- Each instruction that 1.0 has becomes one whose form is alike.
+use Rattle.std.proofs.Common.{◌≡◌, ℕ, Bool, true, false, List, map, Option, Some, None, option_map, refl, sym, ap, ◌∙◌, subst, if◌then◌else◌}
+use Rattle.std.specs.Prelude.{slice_get, option_and_then}
 use Rattle.std.proofs.lemmas.Option.{slice_get-map}
 use Rattle.std.proofs.lemmas.Bool.{eqb-true}
 use Rattle.evaluation_kit.specs.declared.jump.Jump.{Jump}
 use Rattle.evaluation_kit.specs.declared.jump.Jump.TheVariants as jumps
 use Rattle.evaluation_kit.specs.Configurations.{Plain, PlainRes}
-use Rattle.evaluation_kit.specs.Languages.{Language, func, exec_code}
+use Rattle.evaluation_kit.specs.Languages.{Language}
 use Rattle.evaluation_kit.specs.Leaves as leaves
 use Rattle.simulation_kit.specs.Fitting.{FormFits}
 use Rattle.simulation_kit.specs.Keeping.{Holds, HoldsAfter, NamedJump, ActKeeps}
-use Rattle.simulation_kit.specs.Labels.{IsShared}
-use Rattle.simulation_kit.specs.Likenesses.{LeafLike, PickedLike, PickLike, matching, FormLike}
-use Rattle.simulation_kit.specs.Matches.{Match, Context, Sims}
+use Rattle.simulation_kit.specs.Likenesses.{LeafLike, PickedLike, PickLike, FormLike}
 use Rattle.simulation_kit.specs.Mirrors.{mirrored, image, ActMirrors}
-use Rattle.simulation_kit.specs.Rewriting.{rewrite, layer_sem, stepped}
-use Rattle.simulation_kit.specs.Staying.{AllFuncsSim}
+use Rattle.simulation_kit.specs.Rewriting.{rewrite}
 use Rattle.simulation_kit.proofs.Fitting.{fits_inside}
-use Rattle.simulation_kit.proofs.LikeCode.{sees_place, Alike, Body, like_stays, OwesLayers}
 use Rattle.simulation_kit.proofs.MappedLeaves.{get_local_mirrors, set_local_mirrors, tee_local_mirrors, on_operands_mirrors, branch_if_mirrors, branch_table_mirrors}
 use Rattle.simulation_kit.proofs.Mirroring.{leaf_like}
 use Rattle.wasm_ast.specs.declared.module.ty.BlockType.{BlockType}
@@ -25,7 +21,7 @@ use Rattle.wasm_ast.specs.declared.module.ty.BlockType.TheVariants as blocks
 use Rattle.wasm_ast.specs.declared.module.code.Instr.{Instr}
 use Rattle.wasm_ast.specs.declared.module.code.Instr.TheOpen.{Instr-F}
 use Rattle.wasm_ast.specs.declared.module.parts.Module.{Module}
-use Rattle.core1_ast.specs.declared.module.code.Instr1.{Instr1, roll-Instr1}
+use Rattle.core1_ast.specs.declared.module.code.Instr1.{Instr1}
 use Rattle.core1_ast.specs.declared.module.code.Instr1.TheOpen.{Instr1-F}
 use Rattle.host_kit.specs.Offered.{func_type}
 use Rattle.meaning_new.specs.declared.val.Val.{Val}
@@ -39,7 +35,7 @@ use Rattle.meaning_core1.specs.Store.{State1, by_store, by_growth}
 use Rattle.meaning_core1.specs.Accesses.{size1, grow1}
 use Rattle.meaning_core1.specs.Operators.{top1, pure_op, is_true, dropped, selected}
 use Rattle.meaning_core1.specs.Language.{language1, block_results, parameter_count, typed_as, pick1, equal_func_types}
-use Rattle.crossing.specs.Code.{cross_block, is_block, cross_op, cross_argument, cross_step, crosses}
+use Rattle.crossing.specs.Code.{cross_block, is_block, cross_op, cross_layer, cross_step, crosses}
 use Rattle.crossing.specs.Modules.{cross, cross_func_type}
 use Rattle.crossing.specs.States.{cross_value, cross_state, cross_table, IsInteger}
 use Rattle.crossing.specs.Crossing.{crossing_test, InstrCrosses, FunctionsCross}
@@ -136,91 +132,76 @@ module _ (m : Module) (crossing : FunctionsCross m) where
         ∙ ap (λ (x : ℕ). pick m t x q) (sym e));
   }
 
-  abbrev W : Match Val State Val1 State1
-  W = matching (mirrored M)
-
   abbrev pub seen : Unit {0} → Unit {0}
   seen p = tt
 
-  abbrev B : ℕ → Type 0
-  B N = Body (mirrored M) L L' cross_step seen (InstrCrosses m) N
+  -- what one layer becomes, wherever it stands
+  abbrev pub becomes : Instr-F (Unit {0} → List Instr1) → Unit {0} → Instr1-F Instr1
+  becomes l x = cross_layer l
 
-  -- the code of a body
-  abbrev inside : (N : ℕ) → List (B N) → List Instr1
-  inside N code = flat_map (λ part. part tt) (map (λ y. rewrite L cross_step y.0) code)
+  module _ (P : Instr → Type 0) where
+    -- an instruction whose bodies are given with anything beside
+    abbrev Part : Type 0
+    Part = (i : Instr) × P i
 
-  stays : (N : ℕ) → AllFuncsSim W N (func L) (func L') → (l : Instr-F (B N)) (l' : Instr1-F Instr1) (x : Context W) (k g : Unit {0}) → IsShared x.labels → FormLike (mirrored M) L cross_step seen (InstrCrosses m) _ x.place (L.layer (B N) l) (L'.layer Instr1 l') →
-      Sims W N x k g (layer_sem W L L' cross_step (sees_place (mirrored M) L L' cross_step seen (InstrCrosses m)) (Alike (mirrored M) L L' cross_step seen (InstrCrosses m)) N l) (exec_code L' (roll-Instr1 l' ∷ []))
-  stays N fs l l' x k g shared h = like_stays (mirrored M) L L' cross_step seen (InstrCrosses m) N fs l l' x k g shared (record { readies = λ q q' e is. refl; asks = λ q e. absurd cc }) h
+    -- its form is alike to that of what it becomes
+    abbrev IsAlike : Instr-F Part → Type 0
+    IsAlike l = FormLike (mirrored M) L cross_step seen (InstrCrosses m) P tt (L.layer Part l) (L'.layer Instr1 (cross_layer (L.tree.over Part (Unit {0} → List Instr1) (λ y. rewrite L cross_step y.0) l)))
 
-  -- the one layer
-  layer_of : (N : ℕ) → AllFuncsSim W N (func L) (func L') → (l : Instr-F (B N)) (x : Context W) (k g : Unit {0}) → IsShared x.labels → crosses (B N) l ≡ true → FormFits (λ f. true ≡ true) (InstrCrosses m) (L.layer (B N) l) →
-      Sims W N x k g (layer_sem W L L' cross_step (sees_place (mirrored M) L L' cross_step seen (InstrCrosses m)) (Alike (mirrored M) L L' cross_step seen (InstrCrosses m)) N l)
-      (exec_code L' (stepped W L L' cross_step (sees_place (mirrored M) L L' cross_step seen (InstrCrosses m)) (Alike (mirrored M) L L' cross_step seen (InstrCrosses m)) N l tt))
-  layer_of N fs Instr-F.Unreachable x k g shared own fits = stays N fs Instr-F.Unreachable Instr1-F.Unreachable x k g shared (mirrors _ _ (λ q. refl) (jump_kept jumps.Trap tt))
-  layer_of N fs Instr-F.Nop x k g shared own fits = stays N fs Instr-F.Nop Instr1-F.Nop x k g shared (mirrors _ _ (λ q. refl) (record { keeps = λ q h. h }))
-  layer_of N fs (Instr-F.Block t code) x k g shared own fits =
-      stays N fs (Instr-F.Block t code) (Instr1-F.Block (cross_block t) (inside N code)) x k g shared (block_takes m t own, block_gives m t own, record { inner = tt; around = tt; fits = fits; rewritten = refl })
-  layer_of N fs (Instr-F.Loop t code) x k g shared own fits =
-      stays N fs (Instr-F.Loop t code) (Instr1-F.Loop (cross_block t) (inside N code)) x k g shared (block_takes m t own, block_gives m t own, record { inner = tt; around = tt; fits = fits; rewritten = refl })
-  layer_of N fs (Instr-F.If t first second) x k g shared own fits =
-      stays N fs (Instr-F.If t first second) (Instr1-F.If (cross_block t) (inside N first) (inside N second)) x k g shared
-      (block_takes m t own, block_gives m t own, holds-cross, record { inner = tt; around = tt; first_fits = fits.0; second_fits = fits.1; first_rewritten = refl; second_rewritten = refl })
-  layer_of N fs (Instr-F.Br l) x k g shared own fits = stays N fs (Instr-F.Br l) (Instr1-F.Br l) x k g shared (mirrors _ _ (λ q. refl) (jump_kept (jumps.Branch l) tt))
-  layer_of N fs (Instr-F.BrIf l) x k g shared own fits =
-      stays N fs (Instr-F.BrIf l) (Instr1-F.BrIf l) x k g shared
-      (mirrors _ _ (branch_if_mirrors true false 0 (Unit {0}) (λ p o. Unit {0}) keeps cross_value (λ f. f) cross_state holds is_true l holds-cross)
-      (record { keeps = λ q h. branch_kept (holds q.operands) l (record q { operands = leaves.below q.operands }) (popped_kept q h) }))
-  layer_of N fs (Instr-F.BrTable labels last) x k g shared own fits =
-      stays N fs (Instr-F.BrTable labels last) (Instr1-F.BrTable labels last) x k g shared
-      (mirrors _ _ (branch_table_mirrors true false 0 (Unit {0}) (λ p o. Unit {0}) keeps cross_value (λ f. f) cross_state first top1 labels last first-cross)
-      (record { keeps = λ q h. (tt, popped_kept q h) }))
-  layer_of N fs Instr-F.Return x k g shared own fits = stays N fs Instr-F.Return Instr1-F.Return x k g shared (mirrors _ _ (λ q. refl) (jump_kept jumps.Return tt))
-  layer_of N fs (Instr-F.Call f) x k g shared own fits = stays N fs (Instr-F.Call f) (Instr1-F.Call f) x k g shared (ap parameter_count (func_type-cross m f) ∙ params-cross (func_type m f), tt, refl)
-  layer_of N fs (Instr-F.CallIndirect t table) x k g shared own fits =
-      stays N fs (Instr-F.CallIndirect t table) (Instr1-F.CallIndirect t) x k g shared (ap parameter_count (slice_get-map cross_func_type m.types t) ∙ params-cross (slice_get m.types t), pick_like t table (eqb-true table 0 own))
-  layer_of N fs Instr-F.Drop x k g shared own fits = stays N fs Instr-F.Drop Instr1-F.Drop x k g shared (operands_like drop_operand dropped drop-cross drop_kept)
-  layer_of N fs Instr-F.Select x k g shared own fits = stays N fs Instr-F.Select Instr1-F.Select x k g shared (operands_like select selected select-cross select_kept)
-  layer_of N fs (Instr-F.SelectTyped ts) x k g shared own fits = stays N fs (Instr-F.SelectTyped ts) Instr1-F.Select x k g shared (operands_like select selected select-cross select_kept)
-  layer_of N fs (Instr-F.LocalGet i) x k g shared own fits =
-      stays N fs (Instr-F.LocalGet i) (Instr1-F.LocalGet i) x k g shared
-      (mirrors _ _ (get_local_mirrors true false 0 (Unit {0}) (λ p o. Unit {0}) keeps cross_value (λ f. f) cross_state missing i)
-      (record { keeps = λ q h. record { operands = (all_at IsInteger q.locals i missing h.locals tt, h.operands); locals = h.locals; state = h.state } }))
-  layer_of N fs (Instr-F.LocalSet i) x k g shared own fits =
-      stays N fs (Instr-F.LocalSet i) (Instr1-F.LocalSet i) x k g shared
-      (mirrors _ _ (set_local_mirrors true false 0 (Unit {0}) (λ p o. Unit {0}) keeps cross_value (λ f. f) cross_state missing i)
-      (record {
-        keeps = λ q h. record {
-          operands = all_below IsInteger q.operands h.operands;
-          locals = all_set IsInteger q.locals i (leaves.top missing q.operands) h.locals (all_top IsInteger q.operands missing h.operands tt);
-          state = h.state;
-        };
-      }))
-  layer_of N fs (Instr-F.LocalTee i) x k g shared own fits =
-      stays N fs (Instr-F.LocalTee i) (Instr1-F.LocalTee i) x k g shared
-      (mirrors _ _ (tee_local_mirrors true false 0 (Unit {0}) (λ p o. Unit {0}) keeps cross_value (λ f. f) cross_state missing i)
-      (record {
-        keeps = λ q h. record {
-          operands = h.operands;
-          locals = all_set IsInteger q.locals i (leaves.top missing q.operands) h.locals (all_top IsInteger q.operands missing h.operands tt);
-          state = h.state;
-        };
-      }))
-  layer_of N fs (Instr-F.GlobalGet i) x k g shared own fits = stays N fs (Instr-F.GlobalGet i) (Instr1-F.GlobalGet i) x k g shared (effect_like _ _ (get_global_crosses i))
-  layer_of N fs (Instr-F.GlobalSet i) x k g shared own fits = stays N fs (Instr-F.GlobalSet i) (Instr1-F.GlobalSet i) x k g shared (effect_like _ _ (set_global_crosses i))
-  layer_of N fs (Instr-F.Load op arg) x k g shared own fits = stays N fs (Instr-F.Load op arg) (Instr1-F.Load op (cross_argument arg)) x k g shared (effect_like _ _ (load_crosses op arg (eqb-true arg.memory 0 own)))
-  layer_of N fs (Instr-F.Store op arg) x k g shared own fits = stays N fs (Instr-F.Store op arg) (Instr1-F.Store op (cross_argument arg)) x k g shared (effect_like _ _ (store_crosses op arg (eqb-true arg.memory 0 own)))
-  layer_of N fs (Instr-F.MemorySize i) x k g shared own fits =
-      stays N fs (Instr-F.MemorySize i) Instr1-F.MemorySize x k g shared
-      (subst (λ (n : ℕ). LeafLike (mirrored M) (on_store (memory_size n)) (by_store size1)) (sym (eqb-true i 0 own)) (effect_like _ _ size_crosses))
-  layer_of N fs (Instr-F.MemoryGrow i) x k g shared own fits =
-      stays N fs (Instr-F.MemoryGrow i) Instr1-F.MemoryGrow x k g shared (subst (λ (n : ℕ). LeafLike (mirrored M) (on_growth (memory_grow n)) (by_growth grow1)) (sym (eqb-true i 0 own)) grow_like)
-  layer_of N fs (Instr-F.Pure op) x k g shared own fits = stays N fs (Instr-F.Pure op) (Instr1-F.Pure (cross_op op)) x k g shared (operands_like (pure op) (pure_op (cross_op op)) (pure-cross op own) (pure_kept op own))
-  layer_of N fs l x k g shared own fits = absurd cc
+    form_of : (l : Instr-F Part) → crosses Part l ≡ true → FormFits (λ f. true ≡ true) (InstrCrosses m) (L.layer Part l) → IsAlike l
+    form_of Instr-F.Unreachable own fits = mirrors _ _ (λ q. refl) (jump_kept jumps.Trap tt)
+    form_of Instr-F.Nop own fits = mirrors _ _ (λ q. refl) (record { keeps = λ q h. h })
+    form_of (Instr-F.Block t code) own fits =
+        (block_takes m t own, block_gives m t own, record { inner = tt; around = tt; fits = fits; rewritten = refl })
+    form_of (Instr-F.Loop t code) own fits =
+        (block_takes m t own, block_gives m t own, record { inner = tt; around = tt; fits = fits; rewritten = refl })
+    form_of (Instr-F.If t first second) own fits =
+        (block_takes m t own, block_gives m t own, holds-cross, record { inner = tt; around = tt; first_fits = fits.0; second_fits = fits.1; first_rewritten = refl; second_rewritten = refl })
+    form_of (Instr-F.Br l) own fits = mirrors _ _ (λ q. refl) (jump_kept (jumps.Branch l) tt)
+    form_of (Instr-F.BrIf l) own fits =
+        mirrors _ _ (branch_if_mirrors true false 0 (Unit {0}) (λ p o. Unit {0}) keeps cross_value (λ f. f) cross_state holds is_true l holds-cross)
+        (record { keeps = λ q h. branch_kept (holds q.operands) l (record q { operands = leaves.below q.operands }) (popped_kept q h) })
+    form_of (Instr-F.BrTable labels last) own fits =
+        mirrors _ _ (branch_table_mirrors true false 0 (Unit {0}) (λ p o. Unit {0}) keeps cross_value (λ f. f) cross_state first top1 labels last first-cross)
+        (record { keeps = λ q h. (tt, popped_kept q h) })
+    form_of Instr-F.Return own fits = mirrors _ _ (λ q. refl) (jump_kept jumps.Return tt)
+    form_of (Instr-F.Call f) own fits = (ap parameter_count (func_type-cross m f) ∙ params-cross (func_type m f), tt, refl)
+    form_of (Instr-F.CallIndirect t table) own fits =
+        (ap parameter_count (slice_get-map cross_func_type m.types t) ∙ params-cross (slice_get m.types t), pick_like t table (eqb-true table 0 own))
+    form_of Instr-F.Drop own fits = operands_like drop_operand dropped drop-cross drop_kept
+    form_of Instr-F.Select own fits = operands_like select selected select-cross select_kept
+    form_of (Instr-F.SelectTyped ts) own fits = operands_like select selected select-cross select_kept
+    form_of (Instr-F.LocalGet i) own fits =
+        mirrors _ _ (get_local_mirrors true false 0 (Unit {0}) (λ p o. Unit {0}) keeps cross_value (λ f. f) cross_state missing i)
+        (record { keeps = λ q h. record { operands = (all_at IsInteger q.locals i missing h.locals tt, h.operands); locals = h.locals; state = h.state } })
+    form_of (Instr-F.LocalSet i) own fits =
+        mirrors _ _ (set_local_mirrors true false 0 (Unit {0}) (λ p o. Unit {0}) keeps cross_value (λ f. f) cross_state missing i)
+        (record {
+          keeps = λ q h. record {
+            operands = all_below IsInteger q.operands h.operands;
+            locals = all_set IsInteger q.locals i (leaves.top missing q.operands) h.locals (all_top IsInteger q.operands missing h.operands tt);
+            state = h.state;
+          };
+        })
+    form_of (Instr-F.LocalTee i) own fits =
+        mirrors _ _ (tee_local_mirrors true false 0 (Unit {0}) (λ p o. Unit {0}) keeps cross_value (λ f. f) cross_state missing i)
+        (record {
+          keeps = λ q h. record {
+            operands = h.operands;
+            locals = all_set IsInteger q.locals i (leaves.top missing q.operands) h.locals (all_top IsInteger q.operands missing h.operands tt);
+            state = h.state;
+          };
+        })
+    form_of (Instr-F.GlobalGet i) own fits = effect_like _ _ (get_global_crosses i)
+    form_of (Instr-F.GlobalSet i) own fits = effect_like _ _ (set_global_crosses i)
+    form_of (Instr-F.Load op arg) own fits = effect_like _ _ (load_crosses op arg (eqb-true arg.memory 0 own))
+    form_of (Instr-F.Store op arg) own fits = effect_like _ _ (store_crosses op arg (eqb-true arg.memory 0 own))
+    form_of (Instr-F.MemorySize i) own fits =
+        subst (λ (n : ℕ). LeafLike (mirrored M) (on_store (memory_size n)) (by_store size1)) (sym (eqb-true i 0 own)) (effect_like _ _ size_crosses)
+    form_of (Instr-F.MemoryGrow i) own fits =
+        subst (λ (n : ℕ). LeafLike (mirrored M) (on_growth (memory_grow n)) (by_growth grow1)) (sym (eqb-true i 0 own)) grow_like
+    form_of (Instr-F.Pure op) own fits = operands_like (pure op) (pure_op (cross_op op)) (pure-cross op own) (pure_kept op own)
+    form_of l own fits = absurd cc
 
-  pub layers : OwesLayers (mirrored M) L L' cross_step seen (InstrCrosses m)
-  layers N fs = record {
-    layers = λ l x k g claim.
-        let inside = fits_inside L (λ f. true) crossing_test _ l claim.1 in
-        layer_of N fs l x k g claim.0 inside.0 inside.1;
-  }
+    pub forms_like : (l : Instr-F Part) → InstrCrosses m (L.tree.roll (L.tree.over Part Instr (λ y. y.0) l)) → IsAlike l
+    forms_like l h = let inside = fits_inside L (λ f. true) crossing_test P l h in form_of l inside.0 inside.1

@@ -1,36 +1,32 @@
--- The theorem: a crossed module shows what the module shows, turn for turn.
-use Rattle.std.proofs.Common.{◌≡◌, ℕ, ◌-◌, false, List, ◌∷◌, Option, Some, None, refl, sym, ap, ◌∙◌, subst, arith}
+-- The theorem: a crossed module shows what the module shows and opens as many calls, turn for turn.
+use Rattle.std.proofs.Common.{◌≡◌, ℕ, ◌-◌, List, ◌∷◌, Option, Some, None, refl, sym, ap, ◌∙◌, subst, arith}
 use Rattle.outcome_kit.specs.Outcome.{Out, Done, Halt, after, place_of}
 use Rattle.outcome_kit.specs.Code.{Go, Leave, go_on, stands}
 use Rattle.evaluation_kit.specs.Configurations.{World, Sem}
 use Rattle.evaluation_kit.specs.Languages.{func}
 use Rattle.evaluation_kit.specs.Tasks.{Status, Task, Change, placed, tasks, world_after}
-use Rattle.simulation_kit.specs.Likenesses.{matching}
-use Rattle.simulation_kit.specs.Matches.{Match, Halts}
 use Rattle.simulation_kit.specs.Mirrors.{mirrored}
-use Rattle.simulation_kit.proofs.Directions.{exactly, unless_stuck}
-use Rattle.simulation_kit.proofs.LikeCode.{like_final}
 use Rattle.host_kit.specs.declared.event.Event.TheVariants as events
 use Rattle.host_kit.specs.declared.script.Script.{Script}
 use Rattle.wasm_ast.specs.declared.module.parts.Module.{Module}
-use Rattle.meaning_new.specs.declared.val.Val.{Val}
 use Rattle.meaning_new.specs.Store.{Store, State, with_store}
 use Rattle.meaning_new.specs.Instances.{place_segments}
 use Rattle.meaning_new.specs.Runs.{instantiated, trace, depth}
-use Rattle.meaning_core1.specs.declared.val1.Val1.{Val1}
 use Rattle.meaning_core1.specs.Store.{Store1, State1, show, in_store}
 use Rattle.meaning_core1.specs.Instances.{new_state1, with_segments}
 use Rattle.meaning_core1.specs.Runs.{segments_status, trace1, depth1}
-use Rattle.crossing.specs.Code.{cross_step}
 use Rattle.crossing.specs.Modules.{cross}
+use Rattle.crossing.specs.InStep.{WorldLike}
 use Rattle.crossing.specs.States.{cross_store, cross_state, IsPlain, ScriptIsPlain}
 use Rattle.crossing.specs.Crossing.{InstrCrosses, FunctionsCross, StoresAgree, first_state, InstantiationCrosses, CrossedRuns}
 use Rattle.crossing.proofs.Callees.{callees}
 use Rattle.crossing.proofs.Ends.{world_same}
 use Rattle.crossing.proofs.Images.{M}
-use Rattle.crossing.proofs.Layers.{L, L', seen, layers}
+use Rattle.crossing.proofs.Instructions.{Owes, functions_in_step}
+use Rattle.crossing.proofs.Layers.{L, L', seen, becomes, forms_like}
 use Rattle.crossing.proofs.Ordinary.{functions_so}
 use Rattle.crossing.proofs.Runs.{rest, rest1, rest_seen, rest_like, rest_agrees}
+use Rattle.crossing.proofs.Tasks.{worlds_alike}
 
 -- a change of the state, and then other tasks
 module _ {V S : Type 0} (funcs : ℕ → Sem V S) (ts : List (Task V S)) where
@@ -53,17 +49,25 @@ module _ {V S : Type 0} (funcs : ℕ → Sem V S) (ts : List (Task V S)) where
   changes_first f s n = settles s (f s) n
 
 module _ (m : Module) (crossing : FunctionsCross m) (script : Script) (plain : ScriptIsPlain script) where
-  abbrev W : Match Val State Val1 State1
-  W = matching (mirrored M)
+  -- what the crossing owes
+  owed : Owes (mirrored M) (L m crossing) (L' m crossing) (becomes m crossing) (seen m crossing) (InstrCrosses m)
+  owed = record {
+    forms = λ P l x fits. forms_like m crossing P l fits;
+    readies = λ P l x q q'. refl;
+    callees = callees m crossing;
+  }
+
+  -- worlds that agree in all that a host learns
+  abbrev Agree : World State → World State1 → Type 0
+  Agree w w' = WorldLike (mirrored M) w w'
 
   -- from images on
-  pub runs_alike : (s : State) → IsPlain s → (n : ℕ) → Halts W (world_after (func (L m crossing)) (rest m script.items) s n) (world_after (func (L' m crossing)) (rest1 m script.items) (cross_state s) n)
+  pub runs_alike : (s : State) → IsPlain s → (n : ℕ) → Agree (world_after (func (L m crossing)) (rest m script.items) s n) (world_after (func (L' m crossing)) (rest1 m script.items) (cross_state s) n)
   runs_alike s h n =
-      subst (λ w. Halts W (world_after (func (L m crossing)) (rest m script.items) s n) w)
+      subst (Agree (world_after (func (L m crossing)) (rest m script.items) s n))
       (world_same (func (L' m crossing)) (functions_so (cross m)) (rest_seen m script.items) (rest1 m script.items) (rest_agrees m script.items) (cross_state s) n)
-      (exactly W n (world_after (func (L m crossing)) (rest m script.items) s n) (world_after (func (L' m crossing)) (rest_seen m script.items) (cross_state s)) refl
-      (unless_stuck false (tasks (func (L m crossing)) (rest m script.items) n (record { state = s; deepest = 0 })) refl
-      (like_final (mirrored M) (L m crossing) (L' m crossing) cross_step (seen m crossing) (InstrCrosses m) (layers m crossing) (callees m crossing) (rest m script.items) (rest_seen m script.items) (rest_like m script.items plain.items) s (cross_state s) (refl, h) n)))
+      (worlds_alike (mirrored M) (func (L m crossing)) (func (L' m crossing)) (functions_in_step (mirrored M) (L m crossing) (L' m crossing) (becomes m crossing) (seen m crossing) (InstrCrosses m) owed)
+      (rest m script.items) (rest_seen m script.items) (rest_like m script.items plain.items) s (cross_state s) refl h n)
 
   module _ (same : InstantiationCrosses m script) where
     abbrev s0 : State
@@ -78,20 +82,20 @@ module _ (m : Module) (crossing : FunctionsCross m) (script : Script) (plain : S
     abbrev after_segments1 : Status State1 → ℕ → World State1
     after_segments1 = next (func (L' m crossing)) (rest1 m script.items)
 
-    agrees : (o : Option Store) (o' : Option Store1) → StoresAgree o o' → (n : ℕ) → Halts W (after_segments (instantiated s0 o) n) (after_segments1 (segments_status s1 o') n)
-    agrees None None h n = record { state = ap (show events.Failed) same.begins; bound = omega arith }
+    agrees : (o : Option Store) (o' : Option Store1) → StoresAgree o o' → (n : ℕ) → Agree (after_segments (instantiated s0 o) n) (after_segments1 (segments_status s1 o') n)
+    agrees None None h n = record { state = ap (show events.Failed) same.begins; deepest = refl }
     agrees None (Some t') h n = absurd h
     agrees (Some t) None h n = absurd h
     agrees (Some t) (Some t') h n =
         let e : in_store t' s1 ≡ cross_state (with_store t s0) = ap (λ (u : Store1). in_store u s1) h.0 ∙ ap (in_store (cross_store t)) same.begins in
-        subst (λ (u : State1). Halts W (world_after (func (L m crossing)) (rest m script.items) (with_store t s0) n) (world_after (func (L' m crossing)) (rest1 m script.items) u n)) (sym e)
+        subst (λ (u : State1). Agree (world_after (func (L m crossing)) (rest m script.items) (with_store t s0) n) (world_after (func (L' m crossing)) (rest1 m script.items) u n)) (sym e)
         (runs_alike (with_store t s0) (record { store = h.1; permits = λ l. refl; replies = plain.replies }) n)
 
-    all_alike : (n : ℕ) → Halts W (world_after (func (L m crossing)) (Change (λ s. instantiated s (place_segments m s.store)) ∷ rest m script.items) s0 n) (world_after (func (L' m crossing)) (Change (λ s. segments_status s (with_segments (cross m) s.store)) ∷ rest1 m script.items) s1 n)
+    all_alike : (n : ℕ) → Agree (world_after (func (L m crossing)) (Change (λ s. instantiated s (place_segments m s.store)) ∷ rest m script.items) s0 n) (world_after (func (L' m crossing)) (Change (λ s. segments_status s (with_segments (cross m) s.store)) ∷ rest1 m script.items) s1 n)
     all_alike n =
-        subst (λ w. Halts W w (world_after (func (L' m crossing)) (Change (λ s. segments_status s (with_segments (cross m) s.store)) ∷ rest1 m script.items) s1 n))
+        subst (λ w. Agree w (world_after (func (L' m crossing)) (Change (λ s. segments_status s (with_segments (cross m) s.store)) ∷ rest1 m script.items) s1 n))
         (sym (changes_first (func (L m crossing)) (rest m script.items) (λ s. instantiated s (place_segments m s.store)) s0 n))
-        (subst (λ w. Halts W (after_segments (instantiated s0 (place_segments m s0.store)) n) w)
+        (subst (Agree (after_segments (instantiated s0 (place_segments m s0.store)) n))
         (sym (changes_first (func (L' m crossing)) (rest1 m script.items) (λ s. segments_status s (with_segments (cross m) s.store)) s1 n))
         (agrees (place_segments m s0.store) (with_segments (cross m) s1.store) same.segments n))
 
@@ -100,4 +104,4 @@ module _ (m : Module) (crossing : FunctionsCross m) (script : Script) (plain : S
     unfolding trace depth trace1 depth1
     crossed_runs n =
         let h = all_alike n in
-        record { trace = ap (λ (s : State1). s.trace) h.state; depth = let le = h.bound in omega arith }
+        record { trace = ap (λ (s : State1). s.trace) h.state; depth = h.deepest }

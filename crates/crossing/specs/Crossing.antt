@@ -1,5 +1,5 @@
 -- Of which modules of 3.0 the crossing speaks: those that need nothing of 3.0 but typed selects.
-use Rattle.std.specs.Prelude.{◌≡◌, ◌≤◌, ℕ, Bool, true, false, nat_lt, List, [], ◌∷◌, ◌++◌, length, map, filter_map, Option, Some, None, refl}
+use Rattle.std.specs.Prelude.{◌≡◌, ℕ, Bool, true, false, nat_lt, List, [], ◌∷◌, ◌++◌, length, map, filter_map, Option, Some, None, refl}
 use Rattle.host_kit.specs.Fits.{ScriptFits}
 use Rattle.host_kit.specs.Offered.{all_globals}
 use Rattle.host_kit.specs.declared.script.Script.{Script}
@@ -76,10 +76,10 @@ pub record InstantiationCrosses (m : Module) (script : Script) : Type 0 where
   pub segments : StoresAgree (place_segments m (first_state m script).store) (with_segments (cross m) (new_state1 (cross m) script).store)
 
 -- The law of the crossing: the run of the module of 1.0 shows what that of the module of 3.0 shows within as many turns,
--- and has no more calls open.
+-- and has as many calls open at once, at most.
 pub record CrossedRuns (m : Module) (script : Script) (n : ℕ) : Type 0 where
   pub trace : trace1 (cross m) script n ≡ trace m script n
-  pub depth : depth1 (cross m) script n ≤ depth m script n
+  pub depth : depth1 (cross m) script n ≡ depth m script n
 
 -- Constant expressions that 1.0 has: constants, and globals below a number.
 abbrev pub is_constant : ℕ → Instr-F Instr → Bool

@@ -2,7 +2,8 @@
 //! same, and the theorem that both do the same, turn for turn.
 //!
 //! `specs/Code.antt` and `specs/Modules.antt` say what becomes of code and of a module, `specs/Crossing.antt` which modules
-//! cross and what the theorem says. The one layer of the simulation is in `proofs/Layers.antt`, the host in
+//! cross and what the theorem says, and `specs/InStep.antt` when code goes in step with other code. The one layer is in
+//! `proofs/Layers.antt`, the induction over code and functions in `proofs/Instructions.antt`, the host in
 //! `proofs/Hosts.antt` and `proofs/Runs.antt`, instantiation in `proofs/Begins.antt`, `proofs/Elements.antt` and
 //! `proofs/Datas.antt`, and all of it together in `proofs/Whole.antt` and `proofs/Segments.antt`.
 #![tactic(auto)]
@@ -10,7 +11,7 @@
 ghost use Rattle.crossing.specs.Crossing.{CrossesRuns};
 ghost use Rattle.crossing.specs.Interfaces.{CrossesInterface};
 
-/// A crossed module shows its host what the module shows, within as many turns, and opens no more calls.
+/// A crossed module shows its host what the module shows, within as many turns, and has as many calls open at once, at most.
 pub fn crossed_modules_run_alike()
     ensures { CrossesRuns }
 {}

@@ -45,9 +45,6 @@ use Rattle.headline.proofs.Sights.{answers-view, apply-same, begins_seen, cut_be
 
 -- ---- pages
 
-through : (n k l : ℕ) → n ≤ k → k ≤ l → n ≤ l
-through n k l f g = omega (arith, f, g)
-
 more : (n k l : ℕ) → n ≤ k → n ≤ l + k
 more n k l f = omega (arith, f)
 
@@ -151,11 +148,11 @@ module _ (P : Plan) (captures : ℕ) (m : Module) (tree : Module × List TypedFn
             explained.begins;
         same = inl (subst (λ l. Begins l (seen input)) (sym (unmapped_is n)) (seen_begins (trace o s n) input (in_step explained.same)));
         frames = λ few.
-            let mine : depth1 m1 (map_script m s) n ≤ depth o s n = subst (λ x. depth1 m1 x n ≤ depth o s n) (sym same_script) (h.crossed.depth s n fits_below) in
+            let mine : depth1 m1 (map_script m s) n ≡ depth o s n = subst (λ x. depth1 m1 x n ≡ depth o s n) (sym same_script) (h.crossed.depth s n fits_below) in
             let theirs : depth o s n ≤ P.frames * depth m (regrow explained.grows s) explained.turns + P.more_frames =
             subst (λ x. depth o x n ≤ P.frames * depth m (regrow explained.grows s) explained.turns + P.more_frames) (h.plan.script t s)
             (explained.frames (subst (λ k. k ≤ captures) (sym (taken-view input)) few)) in
-            through (depth1 m1 (map_script m s) n) (depth o s n) (P.frames * depth m (regrow explained.grows s) explained.turns + P.more_frames) mine theirs;
+            subst (λ (k : ℕ). k ≤ P.frames * depth m (regrow explained.grows s) explained.turns + P.more_frames) (sym mine) theirs;
       }
 
     -- in to out
