@@ -1,6 +1,7 @@
 pub mod States
 pub mod Nodes
 pub mod NodeLaws
+pub mod Slots
 pub mod Leaves
 pub mod Callees
 pub mod Answers

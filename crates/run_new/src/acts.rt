@@ -9,10 +9,10 @@ ghost use Rattle.meaning_new.specs.Host as host;
 ghost use Rattle.meaning_new.specs.Host.{set_export, exported_memory, peek, poke};
 
 use crate::program::Program;
+use crate::slot::Slot;
 use crate::state::State;
 use crate::values::from_host;
 use host_kit::{Act, Event, Value};
-use meaning_new::Val;
 use num_core::lists::Bytes;
 use std::alloc::AllocError;
 use wasm_ast::module::ExportDesc;
@@ -65,7 +65,7 @@ impl<'a> State<'a> {
         let Some(memory) = self.store.memories.as_slice().get(memory as usize) else {
             return Ok(());
         };
-        let event = match memory.read(Val::I64(at), 0, count as usize) {
+        let event = match memory.read(Slot::i64(at), 0, count as usize) {
             Some(bytes) => Event::Peeked(Bytes::from_slice(self.store.alloc, bytes)?),
             None => Event::OutOfRange,
         };
@@ -92,7 +92,7 @@ impl<'a> State<'a> {
         ensures kept { result ≡ false → self.new ≡ self.old }
     {
         match self.store.memories.get_mut(memory as usize) {
-            Some(memory) => memory.write(Val::I64(at), 0, bytes),
+            Some(memory) => memory.write(Slot::i64(at), 0, bytes),
             None => true,
         }
     }

@@ -8,15 +8,14 @@ ghost use Rattle.meaning_new.specs.Instances.{or_same, constant_step, constant_s
 
 use crate::leaves::{next, third, top};
 use crate::numeric::pure;
-use crate::values::MISSING;
+use crate::slot::{MISSING, Slot};
 use machine_kit::Operands;
-use meaning_new::Val;
 use run_kit::Change;
 use std::alloc::{AllocError, Global};
 use wasm_ast::module::{Instr, Op};
 
 /// The value of a constant expression, by the globals that are there. It fails for want of memory alone.
-pub(crate) fn constant(alloc: Global, globals: &[Val], code: &[Instr]) -> Result<Val, AllocError>
+pub(crate) fn constant(alloc: Global, globals: &[Slot], code: &[Instr]) -> Result<Slot, AllocError>
     ensures { IfOk result (λ value. value ≡ constant globals.now code.now) }
 {
     let mut operands = Operands::new(alloc);
@@ -27,7 +26,7 @@ pub(crate) fn constant(alloc: Global, globals: &[Val], code: &[Instr]) -> Result
 }
 
 /// Does an instruction of a constant expression.
-fn step(globals: &[Val], instr: &Instr, operands: &mut Operands<Val>) -> Result<(), AllocError>
+fn step(globals: &[Slot], instr: &Instr, operands: &mut Operands<Slot>) -> Result<(), AllocError>
     ensures { OnOk result (operands.new ≡ record operands.old { used = constant_step globals.now (out-Instr instr.now) operands.old.used }) }
 {
     match instr {
@@ -41,7 +40,7 @@ fn step(globals: &[Val], instr: &Instr, operands: &mut Operands<Val>) -> Result<
 }
 
 /// Does an operator of a constant expression, which changes nothing where it traps.
-fn pure_step(op: Op, operands: &mut Operands<Val>) -> Result<(), AllocError>
+fn pure_step(op: Op, operands: &mut Operands<Slot>) -> Result<(), AllocError>
     ensures { OnOk result (operands.new ≡ record operands.old { used = or_same operands.old.used (pure op operands.old.used) }) }
 {
     match pure(op, top(operands), next(operands), third(operands)) {

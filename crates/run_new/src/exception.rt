@@ -1,6 +1,6 @@
 ghost use Rattle.std.specs.Prelude.{◌≡◌, reverse, IfOk};
 
-use meaning_new::Val;
+use crate::slot::Slot;
 use sqlite_items::Items;
 use std::alloc::{AllocError, Global};
 use std::marker::Model;
@@ -9,7 +9,7 @@ use std::marker::Model;
 #[derive(Drop)]
 pub struct Exception {
     tag: u32,
-    values: Items<Val>,
+    values: Items<Slot>,
 }
 
 impl Model for Exception {
@@ -23,7 +23,7 @@ impl Model for Exception {
 
 impl Exception {
     /// The exception of a tag with these values, first to last. It fails for want of memory alone.
-    pub fn new(alloc: Global, tag: u32, values: &[Val]) -> Result<Exception, AllocError>
+    pub fn new(alloc: Global, tag: u32, values: &[Slot]) -> Result<Exception, AllocError>
         ensures { IfOk result (λ exception. exception ≡ record { tag = tag; payload = reverse values.now }) }
     {
         let values = Items::from_slice(alloc, values)?;
@@ -38,7 +38,7 @@ impl Exception {
     }
 
     /// Its values, first to last.
-    pub fn values(&self) -> &[Val]
+    pub fn values(&self) -> &[Slot]
         ensures list { reverse result.now ≡ self.now.payload }
         ensures back { reverse self.now.payload ≡ result.now }
     {

@@ -7,21 +7,20 @@ ghost use Rattle.meaning_new.specs.Tables.{table_grow, larger_table};
 ghost use Rattle.run_new.specs.Leaves.{Does};
 ghost use Rattle.run_new.specs.States.{whole};
 
+use crate::slot::Slot;
 use crate::state::State;
 use crate::store::Store;
-use crate::values::number;
 use evaluation_kit::Jump;
-use meaning_new::Val;
 use run_kit::Change;
 use std::alloc::AllocError;
 
 impl<'a> State<'a> {
     /// What memory.grow does: it takes the next answer of the host's, and is told of. It fails for want of memory alone,
     /// and what it then leaves is no state of the run.
-    pub fn memory_grow(&mut self, memory: u32, top: Val) -> Result<Change<Val>, AllocError>
+    pub fn memory_grow(&mut self, memory: u32, top: Slot) -> Result<Change<Slot>, AllocError>
         ensures { IfOk result (λ change. Does (on_growth (memory_grow memory)) (top ∷ []) (whole self.old) change (whole self.new)) }
     {
-        let more = number(top);
+        let more = top.number();
         let Some(place) = self.store.memories.as_slice().get(memory as usize) else {
             return Ok(Change::Exit(0, Jump::Trap));
         };
@@ -39,10 +38,15 @@ impl<'a> State<'a> {
 
     /// What table.grow does: how many entries lie on the top, and the reference below. It takes the next answer of the
     /// host's, and is told of. It fails for want of memory alone, and what it then leaves is no state of the run.
-    pub fn table_grow(&mut self, table: u32, top: Val, next: Val) -> Result<Change<Val>, AllocError>
+    pub fn table_grow(
+        &mut self,
+        table: u32,
+        top: Slot,
+        next: Slot,
+    ) -> Result<Change<Slot>, AllocError>
         ensures { IfOk result (λ change. Does (on_growth (table_grow table)) (top ∷ next ∷ []) (whole self.old) change (whole self.new)) }
     {
-        let more = number(top);
+        let more = top.number();
         let Some(place) = self.store.tables.as_slice().get(table as usize) else {
             return Ok(Change::Exit(0, Jump::Trap));
         };
@@ -54,7 +58,7 @@ impl<'a> State<'a> {
             self.store.add_entries(table, more, next)?;
         }
         self.tell_growth(grown)?;
-        Ok(Change::Put(2, Val::I32(if grown { size } else { u32::MAX })))
+        Ok(Change::Put(2, Slot::i32(if grown { size } else { u32::MAX })))
     }
 }
 
@@ -70,7 +74,7 @@ impl<'a> Store<'a> {
     }
 
     /// Adds so many entries to a table. It fails for want of memory alone.
-    fn add_entries(&mut self, table: u32, more: u128, reference: Val) -> Result<(), AllocError>
+    fn add_entries(&mut self, table: u32, more: u128, reference: Slot) -> Result<(), AllocError>
         ensures { OnOk result ((t : Table) → slice_get self.old.tables table ≡ Some t → self.new ≡ larger_table table t more reference self.old) }
     {
         match self.tables.get_mut(table as usize) {

@@ -1,4 +1,5 @@
 // Calls of imported functions.
+ghost use Rattle.meaning_new.specs.declared.val.Val.{Val};
 ghost use Rattle.std.specs.Prelude.{◌≡◌, ◌++◌, ℕ, List, [], map, reverse, slice_get, filter_map, IfOk, OnOk, option_map, Some};
 ghost use Rattle.std.specs.Option.{option_copied};
 ghost use Rattle.host_kit.specs.declared.event.Event.TheVariants as events;
@@ -12,12 +13,12 @@ ghost use Rattle.run_new.specs.Answers.{answered};
 ghost use Rattle.run_new.specs.States.{whole, unbounded};
 
 use crate::program::Program;
+use crate::slot::Slot;
 use crate::state::State;
 use crate::values::{from_host, to_host};
 use evaluation_kit::Jump;
 use host_kit::{Event, Reply, Value, Values};
 use machine_kit::Operands;
-use meaning_new::Val;
 use run_kit::take_reply;
 use sqlite_items::Items;
 use std::alloc::{AllocError, Global};
@@ -30,7 +31,7 @@ impl<'a> Program<'a> {
     pub fn call_host<'s>(
         &self,
         import: u32,
-        arguments: &[Val],
+        arguments: &[Slot],
         state: &mut State<'s>,
     ) -> Result<Option<&'s [Value]>, AllocError>
         ensures { IfOk result (λ values. (locals : List Val) → host_call (module_of self.now) import (record { operands = reverse arguments.now; locals = locals; state = whole state.old }) ≡ answered import (option_map (λ v. v.now) values) (whole state.new)) }
@@ -47,7 +48,7 @@ impl<'a> Program<'a> {
     pub(crate) fn answer(
         &self,
         import: u32,
-        operands: &mut Operands<Val>,
+        operands: &mut Operands<Slot>,
         state: &mut State,
     ) -> Result<Option<Jump>, AllocError>
         ensures { IfOk result (λ jump. Hosted (part_act unbounded (host_call (module_of self.now) import)) operands.old state.old operands.new state.new jump) }
@@ -66,7 +67,12 @@ impl<'a> Program<'a> {
     }
 
     /// Shows the host a call of its function.
-    fn show_call(&self, import: u32, arguments: &[Val], state: &mut State) -> Result<(), AllocError>
+    fn show_call(
+        &self,
+        import: u32,
+        arguments: &[Slot],
+        state: &mut State,
+    ) -> Result<(), AllocError>
         ensures { OnOk result (whole state.new ≡ tell (events.HostCall import (map to_host arguments.now) (global_values (module_of self.now) (whole state.old))) (whole state.old)) }
     {
         let arguments = host_values(state.alloc(), arguments)?;
@@ -99,7 +105,7 @@ impl<'s> State<'s> {
 }
 
 /// Values as their host sees them, in the same order.
-pub fn host_values(alloc: Global, values: &[Val]) -> Result<Values, AllocError>
+pub fn host_values(alloc: Global, values: &[Slot]) -> Result<Values, AllocError>
     ensures { IfOk result (λ shown. shown ≡ map to_host values.now) }
 {
     let mut shown = Items::new(alloc);
@@ -110,7 +116,7 @@ pub fn host_values(alloc: Global, values: &[Val]) -> Result<Values, AllocError>
 }
 
 /// All operands in use, the top last.
-pub(crate) fn in_order(operands: &Operands<Val>) -> &[Val]
+pub(crate) fn in_order(operands: &Operands<Slot>) -> &[Slot]
     ensures list { result.now ≡ reverse operands.now.used }
     ensures back { reverse result.now ≡ operands.now.used }
 {
@@ -118,7 +124,7 @@ pub(crate) fn in_order(operands: &Operands<Val>) -> &[Val]
 }
 
 /// Puts values of the host's on top, the last one topmost.
-pub(crate) fn push_values(operands: &mut Operands<Val>, values: &[Value]) -> Result<(), AllocError>
+pub(crate) fn push_values(operands: &mut Operands<Slot>, values: &[Value]) -> Result<(), AllocError>
     ensures { OnOk result (operands.new ≡ record operands.old { used = reverse (map from_host values.now) ++ operands.old.used }) }
 {
     for value in values {

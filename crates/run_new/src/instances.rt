@@ -12,12 +12,12 @@ ghost use Rattle.run_new.specs.Instances.{IsInstance};
 
 use crate::constants::constant;
 use crate::memory::Memory;
+use crate::slot::Slot;
 use crate::state::State;
 use crate::store::Store;
 use crate::table::Table;
 use crate::values::from_host;
 use host_kit::{Script, Value};
-use meaning_new::Val;
 use run_kit::replies_left;
 use sqlite_items::Items;
 use std::alloc::{AllocError, Global};
@@ -79,7 +79,7 @@ impl<'a> Store<'a> {
 }
 
 /// The values of the imported globals.
-fn imported_values(alloc: Global, values: &[Value]) -> Result<Vec<Val>, AllocError>
+fn imported_values(alloc: Global, values: &[Value]) -> Result<Vec<Slot>, AllocError>
     ensures { IfOk result (λ globals. globals.items ≡ map from_host values.now) }
 {
     let mut globals = Vec::new(alloc);
@@ -92,9 +92,9 @@ fn imported_values(alloc: Global, values: &[Value]) -> Result<Vec<Val>, AllocErr
 /// The values of the imported globals, and behind them those of the module's own, each by those before it.
 fn with_globals(
     alloc: Global,
-    imported: Vec<Val>,
+    imported: Vec<Slot>,
     own: &[ast::Global],
-) -> Result<Vec<Val>, AllocError>
+) -> Result<Vec<Slot>, AllocError>
     ensures { IfOk result (λ globals. globals.items ≡ with_globals own.now imported.items) }
 {
     let mut globals = imported;
@@ -146,7 +146,7 @@ fn memories_of(alloc: Global, limits: &[Limits]) -> Result<Vec<Memory>, AllocErr
 }
 
 /// The tables, those imported first.
-fn new_tables(alloc: Global, part: &Module, globals: &[Val]) -> Result<Vec<Table>, AllocError>
+fn new_tables(alloc: Global, part: &Module, globals: &[Slot]) -> Result<Vec<Table>, AllocError>
     ensures { (fns : List TypedFn) → IfOk result (λ tables. tables.items ≡ new_tables (module_of (part.now, fns)) globals.now) }
 {
     let mut tables = imported_tables(alloc, part.imports.as_slice())?;
@@ -161,7 +161,7 @@ fn imported_tables(alloc: Global, imports: &[Import]) -> Result<Vec<Table>, Allo
     let mut tables = Vec::new(alloc);
     for import in imports {
         if let ImportDesc::Table(ty, limits) = import.desc {
-            tables.push(Table::new(alloc, Val::Null(ty), limits)?)?;
+            tables.push(Table::new(alloc, Slot::null(ty), limits)?)?;
         }
     }
     Ok(tables)
@@ -172,7 +172,7 @@ fn push_tables(
     alloc: Global,
     tables: &mut Vec<Table>,
     own: &[ast::Table],
-    globals: &[Val],
+    globals: &[Slot],
 ) -> Result<(), AllocError>
     ensures { OnOk result (tables.new.items ≡ tables.old.items ++ map (λ t. new_table (first_entry globals.now t.ty t.init) t.limits) own.now) }
 {
@@ -186,14 +186,14 @@ fn push_tables(
 /// What the entries of a table begin with.
 fn first_entry(
     alloc: Global,
-    globals: &[Val],
+    globals: &[Slot],
     ty: Ty,
     init: &Option<Code>,
-) -> Result<Val, AllocError>
+) -> Result<Slot, AllocError>
     ensures { IfOk result (λ value. value ≡ first_entry globals.now ty init.now) }
 {
     match init {
-        None => Ok(Val::Null(ty)),
+        None => Ok(Slot::null(ty)),
         Some(code) => constant(alloc, globals, code.as_slice()),
     }
 }
@@ -201,9 +201,9 @@ fn first_entry(
 /// The references of the element segments.
 fn new_elems(
     alloc: Global,
-    globals: &[Val],
+    globals: &[Slot],
     elems: &[Element],
-) -> Result<Vec<Items<Val>>, AllocError>
+) -> Result<Vec<Items<Slot>>, AllocError>
     ensures { IfOk result (λ all. all.items ≡ map (λ e. map (constant globals.now) e.items) elems.now) }
 {
     let mut all = Vec::new(alloc);
@@ -214,7 +214,7 @@ fn new_elems(
 }
 
 /// The references of an element segment.
-fn references(alloc: Global, globals: &[Val], items: &[Code]) -> Result<Items<Val>, AllocError>
+fn references(alloc: Global, globals: &[Slot], items: &[Code]) -> Result<Items<Slot>, AllocError>
     ensures { IfOk result (λ references. references ≡ map (constant globals.now) items.now) }
 {
     let mut references = Items::new(alloc);

@@ -1,4 +1,5 @@
 // The items of a script, and how calls from the host end.
+ghost use Rattle.meaning_new.specs.declared.val.Val.{Val};
 ghost use Rattle.std.specs.Prelude.{◌≡◌, ℕ, List, map, reverse, Some, None, slice_get, IfOk, OnOk};
 ghost use Rattle.host_kit.specs.declared.event.Event.TheVariants as events;
 ghost use Rattle.typed_trees.specs.Typed.{module_of};
@@ -11,11 +12,11 @@ ghost use Rattle.run_new.specs.Items.{NextIs};
 
 use crate::host_calls::{host_values, in_order};
 use crate::program::Program;
+use crate::slot::Slot;
 use crate::state::State;
 use evaluation_kit::Jump;
 use host_kit::{Act, Event, Item, Value};
 use machine_kit::Operands;
-use meaning_new::Val;
 use std::alloc::AllocError;
 use wasm_ast::module::ExportDesc;
 
@@ -50,7 +51,7 @@ impl<'a> Program<'a> {
         &self,
         place: u32,
         jump: Option<Jump>,
-        operands: &Operands<Val>,
+        operands: &Operands<Slot>,
         state: &mut State,
     ) -> Result<Option<Jump>, AllocError>
         ensures { IfOk result (λ over. (locals : List Val) → answered (module_of self.now) place (ended_by jump (record { operands = operands.now.used; locals = locals; state = whole state.old })) ≡ ended_by over (whole state.new)) }
@@ -89,7 +90,7 @@ impl<'a> Program<'a> {
     }
 
     /// Shows the host what the call of the item at a place returned.
-    fn show_return(&self, place: u32, results: &[Val], state: &mut State) -> Result<(), AllocError>
+    fn show_return(&self, place: u32, results: &[Slot], state: &mut State) -> Result<(), AllocError>
         ensures { OnOk result (whole state.new ≡ tell (events.Returned place (map to_host results.now) (global_values (module_of self.now) (whole state.old))) (whole state.old)) }
     {
         let results = host_values(state.alloc(), results)?;

@@ -23,6 +23,7 @@ mod memory;
 mod numeric;
 mod program;
 mod segments;
+mod slot;
 mod state;
 mod store;
 mod table;

@@ -1,4 +1,5 @@
 // Instructions on memories (the standard's "Memory Instructions").
+ghost use Rattle.meaning_new.specs.declared.val.Val.{Val};
 ghost use Rattle.std.specs.Prelude.{◌≡◌, ◌+◌, List, [], ◌∷◌, map, set, slice_get, slice_index_or, option_map, option_and_then, IfOk, Some, None, false, if◌then◌else◌};
 ghost use Rattle.num_core.specs.Accesses.{load_bytes, load_width};
 ghost use Rattle.num_core.specs.Bytes.{loaded};
@@ -8,10 +9,10 @@ ghost use Rattle.run_kit.specs.Changes.{Lie};
 ghost use Rattle.meaning_new.specs.Memories.{load_integer, store_integer, memory_size, memory_fill, memory_copy, memory_init, data_drop};
 ghost use Rattle.run_new.specs.Leaves.{DoesInStore};
 
+use crate::slot::Slot;
 use crate::store::Store;
-use crate::values::{fits_or_trap, int, number};
+use crate::values::fits_or_trap;
 use evaluation_kit::Jump;
-use meaning_new::Val;
 use num_core::operators as num;
 use num_core::operators::Load;
 use run_kit::{Change, load_bytes, load_width, loaded, read_range};
@@ -27,7 +28,7 @@ fn no_bytes<'a>() -> &'a [u8]
 
 impl<'a> Store<'a> {
     /// What a load of an integer does: the address lies on the top.
-    pub fn load(&self, op: Load, at: MemArg, top: Val) -> Change<Val>
+    pub fn load(&self, op: Load, at: MemArg, top: Slot) -> Change<Slot>
         ensures { DoesInStore (on_store (load_integer op at)) (top ∷ []) self.now result self.now }
     {
         match self.loaded(op, at, top) {
@@ -37,23 +38,23 @@ impl<'a> Store<'a> {
     }
 
     /// The value that a load reads, or none where its bytes are not all inside.
-    fn loaded(&self, op: Load, at: MemArg, base: Val) -> Option<Val>
+    fn loaded(&self, op: Load, at: MemArg, base: Slot) -> Option<Slot>
         ensures { result ≡ option_and_then (λ m. option_map (λ bytes. int (load_width op) (loaded op bytes)) (read_range (number base + at.offset) (load_bytes op) m.bytes)) (slice_get self.now.memories at.memory) }
     {
         let memory = self.memories.as_slice().get(at.memory as usize)?;
         let bytes = memory.read(base, at.offset, load_bytes(op))?;
-        Some(int(load_width(op), loaded(op, bytes)))
+        Some(Slot::of_width(load_width(op), loaded(op, bytes)))
     }
 
     /// What a store of an integer does: the value lies on the top, and the address below it.
-    pub fn store(&mut self, op: num::Store, at: MemArg, top: Val, next: Val) -> Change<Val>
+    pub fn store(&mut self, op: num::Store, at: MemArg, top: Slot, next: Slot) -> Change<Slot>
         ensures { DoesInStore (on_store (store_integer op at)) (top ∷ next ∷ []) self.old result self.new }
     {
         fits_or_trap(self.put_integer(op, at, top, next), 2)
     }
 
     /// Does a store where the bytes are inside, and says whether they are; else nothing changes.
-    fn put_integer(&mut self, op: num::Store, at: MemArg, top: Val, next: Val) -> bool
+    fn put_integer(&mut self, op: num::Store, at: MemArg, top: Slot, next: Slot) -> bool
         ensures outcome { (operands : List Val) → Lie missing (top ∷ next ∷ []) operands → store_integer op at operands self.old ≡ (if result then Some (below (below operands), self.new) else None) }
         ensures kept { result ≡ false → self.new ≡ self.old }
     {
@@ -64,7 +65,7 @@ impl<'a> Store<'a> {
     }
 
     /// What memory.size does.
-    pub fn memory_size(&self, memory: u32) -> Change<Val>
+    pub fn memory_size(&self, memory: u32) -> Change<Slot>
         ensures { DoesInStore (on_store (memory_size memory)) [] self.now result self.now }
     {
         match self.memories.as_slice().get(memory as usize) {
@@ -74,21 +75,21 @@ impl<'a> Store<'a> {
     }
 
     /// What memory.fill does: how many bytes, the byte and the address, from the top.
-    pub fn memory_fill(&mut self, memory: u32, top: Val, next: Val, third: Val) -> Change<Val>
+    pub fn memory_fill(&mut self, memory: u32, top: Slot, next: Slot, third: Slot) -> Change<Slot>
         ensures { DoesInStore (on_store (memory_fill memory)) (top ∷ next ∷ third ∷ []) self.old result self.new }
     {
         fits_or_trap(self.fill_memory(memory, top, next, third), 3)
     }
 
     /// Does memory.fill where the range is inside, and says whether it is; else nothing changes.
-    fn fill_memory(&mut self, memory: u32, top: Val, next: Val, third: Val) -> bool
+    fn fill_memory(&mut self, memory: u32, top: Slot, next: Slot, third: Slot) -> bool
         ensures outcome { (operands : List Val) → Lie missing (top ∷ next ∷ third ∷ []) operands → memory_fill memory operands self.old ≡ (if result then Some (below (below (below operands)), self.new) else None) }
         ensures kept { result ≡ false → self.new ≡ self.old }
     {
         let Some(memory) = self.memories.get_mut(memory as usize) else {
             return false;
         };
-        let byte = (number(next) % 0x100) as u8;
+        let byte = (next.number() % 0x100) as u8;
         memory.fill(third, top, byte)
     }
 
@@ -98,10 +99,10 @@ impl<'a> Store<'a> {
         &mut self,
         to: u32,
         from: u32,
-        top: Val,
-        next: Val,
-        third: Val,
-    ) -> Result<Change<Val>, AllocError>
+        top: Slot,
+        next: Slot,
+        third: Slot,
+    ) -> Result<Change<Slot>, AllocError>
         ensures { IfOk result (λ change. DoesInStore (on_store (memory_copy to from)) (top ∷ next ∷ third ∷ []) self.old change self.new) }
     {
         if to == from {
@@ -112,14 +113,14 @@ impl<'a> Store<'a> {
     }
 
     /// memory.copy within one memory.
-    fn copy_inside(&mut self, memory: u32, top: Val, next: Val, third: Val) -> Change<Val>
+    fn copy_inside(&mut self, memory: u32, top: Slot, next: Slot, third: Slot) -> Change<Slot>
         ensures { DoesInStore (on_store (memory_copy memory memory)) (top ∷ next ∷ third ∷ []) self.old result self.new }
     {
         fits_or_trap(self.copied_inside(memory, top, next, third), 3)
     }
 
     /// Does it where the ranges are inside, and says whether they are; else nothing changes.
-    fn copied_inside(&mut self, memory: u32, top: Val, next: Val, third: Val) -> bool
+    fn copied_inside(&mut self, memory: u32, top: Slot, next: Slot, third: Slot) -> bool
         ensures outcome { (operands : List Val) → Lie missing (top ∷ next ∷ third ∷ []) operands → memory_copy memory memory operands self.old ≡ (if result then Some (below (below (below operands)), self.new) else None) }
         ensures kept { result ≡ false → self.new ≡ self.old }
     {
@@ -134,10 +135,10 @@ impl<'a> Store<'a> {
         &mut self,
         to: u32,
         from: u32,
-        top: Val,
-        next: Val,
-        third: Val,
-    ) -> Result<Change<Val>, AllocError>
+        top: Slot,
+        next: Slot,
+        third: Slot,
+    ) -> Result<Change<Slot>, AllocError>
         ensures { IfOk result (λ change. DoesInStore (on_store (memory_copy to from)) (top ∷ next ∷ third ∷ []) self.old change self.new) }
     {
         let fits = self.copied_across(to, from, top, next, third)?;
@@ -149,9 +150,9 @@ impl<'a> Store<'a> {
         &mut self,
         to: u32,
         from: u32,
-        top: Val,
-        next: Val,
-        third: Val,
+        top: Slot,
+        next: Slot,
+        third: Slot,
     ) -> Result<bool, AllocError>
         ensures outcome { IfOk result (λ fits. (operands : List Val) → Lie missing (top ∷ next ∷ third ∷ []) operands → memory_copy to from operands self.old ≡ (if fits then Some (below (below (below operands)), self.new) else None)) }
         ensures kept { IfOk result (λ fits. fits ≡ false → self.new ≡ self.old) }
@@ -174,10 +175,10 @@ impl<'a> Store<'a> {
         &mut self,
         segment: u32,
         memory: u32,
-        top: Val,
-        next: Val,
-        third: Val,
-    ) -> Change<Val>
+        top: Slot,
+        next: Slot,
+        third: Slot,
+    ) -> Change<Slot>
         ensures { DoesInStore (on_store (memory_init segment memory)) (top ∷ next ∷ third ∷ []) self.old result self.new }
     {
         fits_or_trap(self.init_memory(segment, memory, top, next, third), 3)
@@ -188,15 +189,15 @@ impl<'a> Store<'a> {
         &mut self,
         segment: u32,
         memory: u32,
-        top: Val,
-        next: Val,
-        third: Val,
+        top: Slot,
+        next: Slot,
+        third: Slot,
     ) -> bool
         ensures outcome { (operands : List Val) → Lie missing (top ∷ next ∷ third ∷ []) operands → memory_init segment memory operands self.old ≡ (if result then Some (below (below (below operands)), self.new) else None) }
         ensures kept { result ≡ false → self.new ≡ self.old }
     {
         let data = segment_bytes(self.datas.as_slice(), segment);
-        let Some(range) = read_range(data, number(next), 0, number(top)) else {
+        let Some(range) = read_range(data, next.number(), 0, top.number()) else {
             return false;
         };
         let Some(memory) = self.memories.get_mut(memory as usize) else {
@@ -206,7 +207,7 @@ impl<'a> Store<'a> {
     }
 
     /// What data.drop does.
-    pub fn data_drop(&mut self, segment: u32) -> Change<Val>
+    pub fn data_drop(&mut self, segment: u32) -> Change<Slot>
         ensures { DoesInStore (on_store (data_drop segment)) [] self.old result self.new }
     {
         self.drop_data(segment);

@@ -6,8 +6,8 @@ ghost use Rattle.meaning_new.specs.Store.{number, int, address_width, page, page
 ghost use Rattle.meaning_new.specs.Memories.{most_pages};
 ghost use Rattle.meaning_new.specs.Instances.{new_memory};
 
-use crate::values::{address_width, int, number};
-use meaning_new::Val;
+use crate::slot::Slot;
+use crate::values::address_width;
 use num_core::operators::Store;
 use run_kit::{copy_range, fill_range, read_range, store_bytes, write_range};
 use std::alloc::{AllocError, Global};
@@ -65,20 +65,20 @@ impl Memory {
     }
 
     /// Its size in pages, as a value of its address type.
-    pub fn size(&self) -> Val
+    pub fn size(&self) -> Slot
         ensures { result ≡ int (address_width self.now.wide) (page_count self.now) }
     {
-        int(address_width(self.wide), self.pages().into())
+        Slot::of_width(address_width(self.wide), self.pages().into())
     }
 
     /// All ones in the address type, which a growth that fails gives.
-    pub fn all_ones(&self) -> Val
+    pub fn all_ones(&self) -> Slot
         ensures { result ≡ int (address_width self.now.wide) (if self.now.wide then 2 ^ 64 - 1 else 2 ^ 32 - 1) }
     {
         if self.wide {
-            Val::I64(u64::MAX)
+            Slot::i64(u64::MAX)
         } else {
-            Val::I32(u32::MAX)
+            Slot::i32(u32::MAX)
         }
     }
 
@@ -108,29 +108,29 @@ impl Memory {
     }
 
     /// So many bytes from an address on, or none where they are not all inside.
-    pub fn read(&self, base: Val, offset: u64, count: usize) -> Option<&[u8]>
+    pub fn read(&self, base: Slot, offset: u64, count: usize) -> Option<&[u8]>
         ensures { option_map (λ bytes. bytes.now) result ≡ read_range (number base + offset) count self.now.bytes }
     {
-        read_range(self.bytes.as_slice(), number(base), offset, count as u128)
+        read_range(self.bytes.as_slice(), base.number(), offset, count as u128)
     }
 
     /// The same, by values.
-    pub fn range(&self, from: Val, count: Val) -> Option<&[u8]>
+    pub fn range(&self, from: Slot, count: Slot) -> Option<&[u8]>
         ensures { option_map (λ bytes. bytes.now) result ≡ read_range (number from) (number count) self.now.bytes }
     {
-        read_range(self.bytes.as_slice(), number(from), 0, number(count))
+        read_range(self.bytes.as_slice(), from.number(), 0, count.number())
     }
 
     /// Writes bytes from an address on, and says whether they are all inside; else nothing changes.
-    pub fn write(&mut self, base: Val, offset: u64, bytes: &[u8]) -> bool
+    pub fn write(&mut self, base: Slot, offset: u64, bytes: &[u8]) -> bool
         ensures range { write_range (number base + offset) bytes.now self.old.bytes ≡ (if result then Some self.new.bytes else None) }
         ensures rest { self.new ≡ (if result then record self.old { bytes = self.new.bytes } else self.old) }
     {
-        write_range(self.bytes.as_mut_slice(), number(base), offset, bytes)
+        write_range(self.bytes.as_mut_slice(), base.number(), offset, bytes)
     }
 
     /// Writes bytes over those from a place on, and says whether they are all inside; else nothing changes.
-    pub fn put(&mut self, to: Val, bytes: &[u8]) -> bool
+    pub fn put(&mut self, to: Slot, bytes: &[u8]) -> bool
         ensures range { write_range (number to) bytes.now self.old.bytes ≡ (if result then Some self.new.bytes else None) }
         ensures rest { self.new ≡ (if result then record self.old { bytes = self.new.bytes } else self.old) }
     {
@@ -139,32 +139,32 @@ impl Memory {
 
     /// Writes the lowest bytes of an integer, as a store does, and says whether they are all inside; else nothing
     /// changes.
-    pub fn store(&mut self, op: Store, base: Val, offset: u64, value: Val) -> bool
+    pub fn store(&mut self, op: Store, base: Slot, offset: u64, value: Slot) -> bool
         ensures range { write_range (number base + offset) (stored op (number value)) self.old.bytes ≡ (if result then Some self.new.bytes else None) }
         ensures rest { self.new ≡ (if result then record self.old { bytes = self.new.bytes } else self.old) }
     {
-        let bytes = number(value).to_le_bytes();
+        let bytes = value.number().to_le_bytes();
         self.write(base, offset, &bytes[..store_bytes(op)])
     }
 
     /// Writes a byte over so many, and says whether they are all inside; else nothing changes.
-    pub fn fill(&mut self, to: Val, count: Val, byte: u8) -> bool
+    pub fn fill(&mut self, to: Slot, count: Slot, byte: u8) -> bool
         ensures range { write_range (number to) (replicate (number count) byte) self.old.bytes ≡ (if result then Some self.new.bytes else None) }
         ensures rest { self.new ≡ (if result then record self.old { bytes = self.new.bytes } else self.old) }
     {
-        fill_range(self.bytes.as_mut_slice(), number(to), number(count), byte)
+        fill_range(self.bytes.as_mut_slice(), to.number(), count.number(), byte)
     }
 
     /// Copies so many bytes from one place to another, and says whether both ranges are inside; else nothing changes.
-    pub fn copy(&mut self, to: Val, from: Val, count: Val) -> bool
+    pub fn copy(&mut self, to: Slot, from: Slot, count: Slot) -> bool
         ensures range { option_and_then (λ bytes. write_range (number to) bytes self.old.bytes) (read_range (number from) (number count) self.old.bytes) ≡ (if result then Some self.new.bytes else None) }
         ensures rest { self.new ≡ (if result then record self.old { bytes = self.new.bytes } else self.old) }
     {
         copy_range(
             self.bytes.as_mut_slice(),
-            number(to),
-            number(from),
-            number(count),
+            to.number(),
+            from.number(),
+            count.number(),
         )
     }
 }

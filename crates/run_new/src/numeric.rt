@@ -6,75 +6,52 @@ ghost use Rattle.meaning_new.specs.Store.{State, number};
 ghost use Rattle.meaning_new.specs.Numeric.{pure};
 ghost use Rattle.run_new.specs.Leaves.{Does};
 
-use crate::values::{int, is_null, number, truth};
+use crate::slot::Slot;
+use crate::values::is_null;
 use crate::vectors::vector_operator;
 use evaluation_kit::Jump;
-use meaning_new::Val;
 use num_core::operations::{binary, compare, convert, eqz, unary};
 use num_core::operators::{Bin, Cmp, Conv, Un, Width};
 use run_kit::Change;
 use wasm_ast::module::Op;
 
-/// The integer of a width that a value is: its lowest bits.
-#[inline(always)]
-pub(crate) fn integer(width: Width, value: Val) -> u64
-    ensures value { result ≡ wrap (bits width) (number value) }
-    ensures below { result < 2 ^ bits width }
-{
-    match (width, value) {
-        (Width::W32, Val::I32(i)) => i.into(),
-        (Width::W64, Val::I64(i)) => i,
-        _ => lowest_bits(width, value),
-    }
-}
-
-/// The same, of a value of any type.
-#[cold]
-#[inline(never)]
-fn lowest_bits(width: Width, value: Val) -> u64
-    ensures value { result ≡ wrap (bits width) (number value) }
-    ensures below { result < 2 ^ bits width }
-{
-    match width {
-        Width::W32 => (number(value) % (1 << 32)) as u64,
-        Width::W64 => (number(value) % (1 << 64)) as u64,
-    }
-}
-
 /// What a test does (t.testop).
 #[inline(always)]
-pub(crate) fn test_operator(width: Width, top: Val) -> Change<Val>
+pub(crate) fn test_operator(width: Width, top: Slot) -> Change<Slot>
     ensures { (s : State) → Does (on_operands (pure (Op.Eqz width))) (top ∷ []) s result s }
 {
-    Change::Put(1, truth(eqz(width, integer(width, top))))
+    Change::Put(1, Slot::truth(eqz(width, top.integer(width))))
 }
 
 /// What a comparison does (t.relop).
 #[inline(always)]
-pub(crate) fn comparison(width: Width, op: Cmp, top: Val, next: Val) -> Change<Val>
+pub(crate) fn comparison(width: Width, op: Cmp, top: Slot, next: Slot) -> Change<Slot>
     ensures { (s : State) → Does (on_operands (pure (Op.Compare width op))) (top ∷ next ∷ []) s result s }
 {
-    let holds = compare(width, op, integer(width, next), integer(width, top));
-    Change::Put(2, truth(holds))
+    let holds = compare(width, op, next.integer(width), top.integer(width));
+    Change::Put(2, Slot::truth(holds))
 }
 
 /// What a binary operator does (t.binop).
 #[inline(always)]
-pub(crate) fn binary_operator(width: Width, op: Bin, top: Val, next: Val) -> Change<Val>
+pub(crate) fn binary_operator(width: Width, op: Bin, top: Slot, next: Slot) -> Change<Slot>
     ensures { (s : State) → Does (on_operands (pure (Op.Binary width op))) (top ∷ next ∷ []) s result s }
 {
-    match binary(width, op, integer(width, next), integer(width, top)) {
-        Some(i) => Change::Put(2, int(width, i)),
+    match binary(width, op, next.integer(width), top.integer(width)) {
+        Some(i) => Change::Put(2, Slot::of_width(width, i)),
         None => Change::Exit(0, Jump::Trap),
     }
 }
 
 /// What a unary operator does (t.unop).
 #[inline(always)]
-pub(crate) fn unary_operator(width: Width, op: Un, top: Val) -> Change<Val>
+pub(crate) fn unary_operator(width: Width, op: Un, top: Slot) -> Change<Slot>
     ensures { (s : State) → Does (on_operands (pure (Op.Unary width op))) (top ∷ []) s result s }
 {
-    Change::Put(1, int(width, unary(width, op, integer(width, top))))
+    Change::Put(
+        1,
+        Slot::of_width(width, unary(width, op, top.integer(width))),
+    )
 }
 
 /// The widths of the operand and of the result of a conversion.
@@ -92,28 +69,28 @@ fn widths(op: Conv) -> (Width, Width)
 
 /// What a conversion does (t2.cvtop).
 #[inline(always)]
-pub(crate) fn conversion(op: Conv, top: Val) -> Change<Val>
+pub(crate) fn conversion(op: Conv, top: Slot) -> Change<Slot>
     ensures { (s : State) → Does (on_operands (pure (Op.Convert op))) (top ∷ []) s result s }
 {
     let (from, to) = widths(op);
-    Change::Put(1, int(to, convert(op, integer(from, top))))
+    Change::Put(1, Slot::of_width(to, convert(op, top.integer(from))))
 }
 
 /// What an instruction on operands alone does to the topmost ones.
-pub(crate) fn pure(op: Op, top: Val, next: Val, third: Val) -> Change<Val>
+pub(crate) fn pure(op: Op, top: Slot, next: Slot, third: Slot) -> Change<Slot>
     ensures { (s : State) → Does (on_operands (pure op)) (top ∷ next ∷ third ∷ []) s result s }
 {
     match op {
-        Op::I32Const(i) => Change::Put(0, Val::I32(i)),
-        Op::I64Const(i) => Change::Put(0, Val::I64(i)),
+        Op::I32Const(i) => Change::Put(0, Slot::i32(i)),
+        Op::I64Const(i) => Change::Put(0, Slot::i64(i)),
         Op::Eqz(width) => test_operator(width, top),
         Op::Compare(width, op) => comparison(width, op, top, next),
         Op::Unary(width, op) => unary_operator(width, op, top),
         Op::Binary(width, op) => binary_operator(width, op, top, next),
         Op::Convert(op) => conversion(op, top),
-        Op::RefNull(ty) => Change::Put(0, Val::Null(ty)),
-        Op::RefIsNull => Change::Put(1, truth(is_null(top))),
-        Op::RefFunc(func) => Change::Put(0, Val::Func(func)),
+        Op::RefNull(ty) => Change::Put(0, Slot::null(ty)),
+        Op::RefIsNull => Change::Put(1, Slot::truth(is_null(top))),
+        Op::RefFunc(func) => Change::Put(0, Slot::func(func)),
         Op::V128Const(_)
         | Op::Shuffle(_)
         | Op::Splat(_)

@@ -1,3 +1,4 @@
+ghost use Rattle.meaning_new.specs.declared.val.Val.{Val};
 ghost use Rattle.std.specs.Prelude.{◌≡◌, ℕ, List, [], ◌∷◌, ◌++◌, length, map, filter_map, count_by, slice_get, bytes_eq, option_map, option_and_then, IfOk, Some};
 ghost use Rattle.wasm_ast.specs.Types.{type_key};
 ghost use Rattle.std.specs.Option.{option_copied};
@@ -13,10 +14,10 @@ ghost use Rattle.run_new.specs.Leaves.{Does};
 ghost use Rattle.run_new.specs.States.{whole};
 ghost use Rattle.run_new.specs.Callees.{CalleeIs, equal_types};
 
+use crate::slot::Slot;
 use crate::state::State;
 use crate::values::function_of;
 use evaluation_kit::Jump;
-use meaning_new::Val;
 use run_kit::Change;
 use sqlite_items::Items;
 use std::alloc::{AllocError, Global};
@@ -137,7 +138,7 @@ impl<'a> Program<'a> {
 
     /// The function that an indirect call finds in a table at the place on the top, where there is one and it has the
     /// type (the standard's "Control Instructions").
-    pub fn find_in_table(&self, ty: u32, table: u32, state: &State, top: Val) -> Option<u32>
+    pub fn find_in_table(&self, ty: u32, table: u32, state: &State, top: Slot) -> Option<u32>
         ensures { (operands locals : List Val) → Lie missing (top ∷ []) operands → result ≡ pick (module_of self.now) ty table (record { operands = operands; locals = locals; state = whole state.now }) }
     {
         let func = function_of(state.store.entry(table, top)?)?;
@@ -149,7 +150,7 @@ impl<'a> Program<'a> {
     }
 
     /// What return_call_indirect does: it leaves by the tail call that it finds, or traps.
-    pub fn tail_call(&self, ty: u32, table: u32, state: &State, top: Val) -> Change<Val>
+    pub fn tail_call(&self, ty: u32, table: u32, state: &State, top: Slot) -> Change<Slot>
         ensures { Does (tail_call_by (module_of self.now) ty table) (top ∷ []) (whole state.now) result (whole state.now) }
     {
         match self.find_in_table(ty, table, state, top) {

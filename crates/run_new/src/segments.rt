@@ -6,8 +6,8 @@ ghost use Rattle.typed_trees.specs.Typed.{module_of};
 ghost use Rattle.meaning_new.specs.Instances.{place_elem, place_elems, place_data, place_datas, place_segments};
 
 use crate::constants::constant;
+use crate::slot::Slot;
 use crate::store::Store;
-use meaning_new::Val;
 use std::alloc::AllocError;
 use wasm_ast::module::{Element, Mode, Module, Segment};
 
@@ -58,7 +58,7 @@ impl<'a> Store<'a> {
             Mode::Active(table, offset) => {
                 let count = u32::try_from(elem.items.len()).map_err(|_| AllocError)?;
                 let at = constant(self.alloc, self.globals.as_slice(), offset.as_slice())?;
-                if self.init_table(place, *table, Val::I32(count), Val::I32(0), at) {
+                if self.init_table(place, *table, Slot::i32(count), Slot::i32(0), at) {
                     self.drop_elem(place);
                     Ok(true)
                 } else {
@@ -81,7 +81,7 @@ impl<'a> Store<'a> {
             Mode::Active(memory, offset) => {
                 let count = u32::try_from(segment.bytes.as_slice().len()).map_err(|_| AllocError)?;
                 let at = constant(self.alloc, self.globals.as_slice(), offset.as_slice())?;
-                if self.init_memory(place, *memory, Val::I32(count), Val::I32(0), at) {
+                if self.init_memory(place, *memory, Slot::i32(count), Slot::i32(0), at) {
                     self.drop_data(place);
                     Ok(true)
                 } else {

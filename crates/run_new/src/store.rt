@@ -6,9 +6,8 @@ ghost use Rattle.run_new.specs.Leaves.{DoesInStore};
 
 use crate::exception::Exception;
 use crate::memory::Memory;
+use crate::slot::{MISSING, Slot};
 use crate::table::Table;
-use crate::values::MISSING;
-use meaning_new::Val;
 use run_kit::Change;
 use sqlite_items::Items;
 use std::alloc::{AllocError, Global};
@@ -19,10 +18,10 @@ use std::marker::Model;
 #[derive(Drop)]
 pub struct Store<'a> {
     pub(crate) alloc: Global,
-    pub(crate) globals: Vec<Val>,
+    pub(crate) globals: Vec<Slot>,
     pub(crate) memories: Vec<Memory>,
     pub(crate) tables: Vec<Table>,
-    pub(crate) elems: Vec<Items<Val>>,
+    pub(crate) elems: Vec<Items<Slot>>,
     pub(crate) datas: Vec<&'a [u8]>,
     pub(crate) exceptions: Vec<Exception>,
 }
@@ -45,14 +44,14 @@ impl<'a> Model for Store<'a> {
 
 impl<'a> Store<'a> {
     /// What global.get does (the standard's "Variable Instructions").
-    pub fn global_get(&self, global: u32) -> Change<Val>
+    pub fn global_get(&self, global: u32) -> Change<Slot>
         ensures { DoesInStore (on_store (global_get global)) [] self.now result self.now }
     {
         Change::Put(0, self.global(global))
     }
 
     /// What global.set does (the standard's "Variable Instructions").
-    pub fn global_set(&mut self, global: u32, top: Val) -> Change<Val>
+    pub fn global_set(&mut self, global: u32, top: Slot) -> Change<Slot>
         ensures { DoesInStore (on_store (global_set global)) (top ∷ []) self.old result self.new }
     {
         self.put_global(global, top);
@@ -60,7 +59,7 @@ impl<'a> Store<'a> {
     }
 
     /// The value of a global, or 0 where there is none.
-    pub(crate) fn global(&self, global: u32) -> Val
+    pub(crate) fn global(&self, global: u32) -> Slot
         ensures { result ≡ slice_index_or self.now.globals global missing }
     {
         let value = self.globals.get(global as usize).copied();
@@ -68,7 +67,7 @@ impl<'a> Store<'a> {
     }
 
     /// Sets a global, where it is there.
-    pub(crate) fn put_global(&mut self, global: u32, value: Val)
+    pub(crate) fn put_global(&mut self, global: u32, value: Slot)
         ensures { self.new ≡ with_global global value self.old }
     {
         if let Some(place) = self.globals.get_mut(global as usize) {
@@ -91,7 +90,7 @@ impl<'a> Store<'a> {
     }
 
     /// The entry of a table at a place, where there is one.
-    pub(crate) fn entry(&self, table: u32, at: Val) -> Option<Val>
+    pub(crate) fn entry(&self, table: u32, at: Slot) -> Option<Slot>
         ensures { result ≡ option_and_then (λ t. slice_get t.entries (number at)) (slice_get self.now.tables table) }
     {
         self.tables.as_slice().get(table as usize)?.get(at)

@@ -1,4 +1,5 @@
 // Instructions on tables (the standard's "Table Instructions").
+ghost use Rattle.meaning_new.specs.declared.val.Val.{Val};
 ghost use Rattle.std.specs.Prelude.{◌≡◌, List, [], ◌∷◌, set, slice_index_or, IfOk, Some, None, false, if◌then◌else◌};
 ghost use Rattle.evaluation_kit.specs.Leaves.{below};
 ghost use Rattle.run_kit.specs.Changes.{Lie};
@@ -6,17 +7,17 @@ ghost use Rattle.meaning_new.specs.Store.{on_store, missing};
 ghost use Rattle.meaning_new.specs.Tables.{table_get, table_set, table_size, table_fill, table_copy, table_init, elem_drop};
 ghost use Rattle.run_new.specs.Leaves.{DoesInStore};
 
+use crate::slot::Slot;
 use crate::store::Store;
-use crate::values::{fits_or_trap, number};
+use crate::values::fits_or_trap;
 use evaluation_kit::Jump;
-use meaning_new::Val;
 use run_kit::{Change, read_range};
 use sqlite_items::Items;
 use std::alloc::AllocError;
 
 impl<'a> Store<'a> {
     /// What table.get does: the place lies on the top.
-    pub fn table_get(&self, table: u32, top: Val) -> Change<Val>
+    pub fn table_get(&self, table: u32, top: Slot) -> Change<Slot>
         ensures { DoesInStore (on_store (table_get table)) (top ∷ []) self.now result self.now }
     {
         match self.entry(table, top) {
@@ -26,14 +27,14 @@ impl<'a> Store<'a> {
     }
 
     /// What table.set does: the reference lies on the top, and the place below it.
-    pub fn table_set(&mut self, table: u32, top: Val, next: Val) -> Change<Val>
+    pub fn table_set(&mut self, table: u32, top: Slot, next: Slot) -> Change<Slot>
         ensures { DoesInStore (on_store (table_set table)) (top ∷ next ∷ []) self.old result self.new }
     {
         fits_or_trap(self.put_entry(table, top, next), 2)
     }
 
     /// Does table.set where the place is inside, and says whether it is; else nothing changes.
-    fn put_entry(&mut self, table: u32, top: Val, next: Val) -> bool
+    fn put_entry(&mut self, table: u32, top: Slot, next: Slot) -> bool
         ensures outcome { (operands : List Val) → Lie missing (top ∷ next ∷ []) operands → table_set table operands self.old ≡ (if result then Some (below (below operands), self.new) else None) }
         ensures kept { result ≡ false → self.new ≡ self.old }
     {
@@ -44,24 +45,24 @@ impl<'a> Store<'a> {
     }
 
     /// What table.size does.
-    pub fn table_size(&self, table: u32) -> Change<Val>
+    pub fn table_size(&self, table: u32) -> Change<Slot>
         ensures { DoesInStore (on_store (table_size table)) [] self.now result self.now }
     {
         match self.tables.as_slice().get(table as usize) {
-            Some(table) => Change::Put(0, Val::I32(table.len())),
+            Some(table) => Change::Put(0, Slot::i32(table.len())),
             None => Change::Exit(0, Jump::Trap),
         }
     }
 
     /// What table.fill does: how many entries, the reference and the place, from the top.
-    pub fn table_fill(&mut self, table: u32, top: Val, next: Val, third: Val) -> Change<Val>
+    pub fn table_fill(&mut self, table: u32, top: Slot, next: Slot, third: Slot) -> Change<Slot>
         ensures { DoesInStore (on_store (table_fill table)) (top ∷ next ∷ third ∷ []) self.old result self.new }
     {
         fits_or_trap(self.fill_table(table, top, next, third), 3)
     }
 
     /// Does table.fill where the range is inside, and says whether it is; else nothing changes.
-    fn fill_table(&mut self, table: u32, top: Val, next: Val, third: Val) -> bool
+    fn fill_table(&mut self, table: u32, top: Slot, next: Slot, third: Slot) -> bool
         ensures outcome { (operands : List Val) → Lie missing (top ∷ next ∷ third ∷ []) operands → table_fill table operands self.old ≡ (if result then Some (below (below (below operands)), self.new) else None) }
         ensures kept { result ≡ false → self.new ≡ self.old }
     {
@@ -77,10 +78,10 @@ impl<'a> Store<'a> {
         &mut self,
         to: u32,
         from: u32,
-        top: Val,
-        next: Val,
-        third: Val,
-    ) -> Result<Change<Val>, AllocError>
+        top: Slot,
+        next: Slot,
+        third: Slot,
+    ) -> Result<Change<Slot>, AllocError>
         ensures { IfOk result (λ change. DoesInStore (on_store (table_copy to from)) (top ∷ next ∷ third ∷ []) self.old change self.new) }
     {
         if to == from {
@@ -91,14 +92,14 @@ impl<'a> Store<'a> {
     }
 
     /// table.copy within one table.
-    fn copy_in_table(&mut self, table: u32, top: Val, next: Val, third: Val) -> Change<Val>
+    fn copy_in_table(&mut self, table: u32, top: Slot, next: Slot, third: Slot) -> Change<Slot>
         ensures { DoesInStore (on_store (table_copy table table)) (top ∷ next ∷ third ∷ []) self.old result self.new }
     {
         fits_or_trap(self.copied_in_table(table, top, next, third), 3)
     }
 
     /// Does it where the ranges are inside, and says whether they are; else nothing changes.
-    fn copied_in_table(&mut self, table: u32, top: Val, next: Val, third: Val) -> bool
+    fn copied_in_table(&mut self, table: u32, top: Slot, next: Slot, third: Slot) -> bool
         ensures outcome { (operands : List Val) → Lie missing (top ∷ next ∷ third ∷ []) operands → table_copy table table operands self.old ≡ (if result then Some (below (below (below operands)), self.new) else None) }
         ensures kept { result ≡ false → self.new ≡ self.old }
     {
@@ -113,10 +114,10 @@ impl<'a> Store<'a> {
         &mut self,
         to: u32,
         from: u32,
-        top: Val,
-        next: Val,
-        third: Val,
-    ) -> Result<Change<Val>, AllocError>
+        top: Slot,
+        next: Slot,
+        third: Slot,
+    ) -> Result<Change<Slot>, AllocError>
         ensures { IfOk result (λ change. DoesInStore (on_store (table_copy to from)) (top ∷ next ∷ third ∷ []) self.old change self.new) }
     {
         let fits = self.copied_across_tables(to, from, top, next, third)?;
@@ -128,9 +129,9 @@ impl<'a> Store<'a> {
         &mut self,
         to: u32,
         from: u32,
-        top: Val,
-        next: Val,
-        third: Val,
+        top: Slot,
+        next: Slot,
+        third: Slot,
     ) -> Result<bool, AllocError>
         ensures outcome { IfOk result (λ fits. (operands : List Val) → Lie missing (top ∷ next ∷ third ∷ []) operands → table_copy to from operands self.old ≡ (if fits then Some (below (below (below operands)), self.new) else None)) }
         ensures kept { IfOk result (λ fits. fits ≡ false → self.new ≡ self.old) }
@@ -153,10 +154,10 @@ impl<'a> Store<'a> {
         &mut self,
         segment: u32,
         table: u32,
-        top: Val,
-        next: Val,
-        third: Val,
-    ) -> Change<Val>
+        top: Slot,
+        next: Slot,
+        third: Slot,
+    ) -> Change<Slot>
         ensures { DoesInStore (on_store (table_init segment table)) (top ∷ next ∷ third ∷ []) self.old result self.new }
     {
         fits_or_trap(self.init_table(segment, table, top, next, third), 3)
@@ -167,15 +168,15 @@ impl<'a> Store<'a> {
         &mut self,
         segment: u32,
         table: u32,
-        top: Val,
-        next: Val,
-        third: Val,
+        top: Slot,
+        next: Slot,
+        third: Slot,
     ) -> bool
         ensures outcome { (operands : List Val) → Lie missing (top ∷ next ∷ third ∷ []) operands → table_init segment table operands self.old ≡ (if result then Some (below (below (below operands)), self.new) else None) }
         ensures kept { result ≡ false → self.new ≡ self.old }
     {
         let entries = segment_entries(self.elems.as_slice(), segment);
-        let Some(range) = read_range(entries, number(next), 0, number(top)) else {
+        let Some(range) = read_range(entries, next.number(), 0, top.number()) else {
             return false;
         };
         let Some(table) = self.tables.get_mut(table as usize) else {
@@ -185,7 +186,7 @@ impl<'a> Store<'a> {
     }
 
     /// What elem.drop does.
-    pub fn elem_drop(&mut self, segment: u32) -> Change<Val>
+    pub fn elem_drop(&mut self, segment: u32) -> Change<Slot>
         ensures { DoesInStore (on_store (elem_drop segment)) [] self.old result self.new }
     {
         self.drop_elem(segment);
@@ -203,7 +204,7 @@ impl<'a> Store<'a> {
 }
 
 /// The references that an element segment still has.
-fn segment_entries(elems: &[Items<Val>], segment: u32) -> &[Val]
+fn segment_entries(elems: &[Items<Slot>], segment: u32) -> &[Slot]
     ensures { result.now ≡ slice_index_or elems.now segment [] }
 {
     match elems.get(segment as usize) {

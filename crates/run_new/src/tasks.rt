@@ -1,4 +1,5 @@
 // What a host does with a module behind its segments.
+ghost use Rattle.meaning_new.specs.declared.val.Val.{Val};
 ghost use Rattle.std.specs.Prelude.{◌≡◌, ◌+◌, List, [], ◌∷◌, ◌++◌, map, IfOk, OnOk};
 ghost use Rattle.machine_kit.specs.Acts.{ended_by};
 ghost use Rattle.machine_kit.specs.Calls.{BegunAs, EndedAs};
@@ -16,11 +17,11 @@ ghost use Rattle.run_new.specs.Tasks.{state_task, task_of};
 use crate::host_calls::push_values;
 use crate::items::Next;
 use crate::program::Program;
+use crate::slot::Slot;
 use crate::state::State;
 use evaluation_kit::Jump;
 use host_kit::{Event, Item};
 use machine_kit::{Begun, Host, Locals, Operands};
-use meaning_new::Val;
 use std::alloc::{AllocError, Global};
 
 /// One thing that a host does with a module, of those that it does in order once the segments are written.
@@ -36,7 +37,7 @@ pub enum Task<'s> {
     Done,
 }
 
-impl<'p, 's> Host<Val, State<'s>> for Program<'p> {
+impl<'p, 's> Host<Slot, State<'s>> for Program<'p> {
     type Item = Task<'s>;
 
     ghost task = { λ p t. task_of p t };
@@ -46,7 +47,7 @@ impl<'p, 's> Host<Val, State<'s>> for Program<'p> {
         alloc: Global,
         item: &Task<'s>,
         state: &mut State<'s>,
-    ) -> Result<Begun<Val>, AllocError>
+    ) -> Result<Begun<Slot>, AllocError>
         ensures { IfOk result (λ begun. BegunAs (task_of self.now item.now) state.old begun state.new) }
     {
         match item {
@@ -67,8 +68,8 @@ impl<'p, 's> Host<Val, State<'s>> for Program<'p> {
         &self,
         item: &Task<'s>,
         jump: Option<Jump>,
-        operands: &Operands<Val>,
-        locals: &Locals<Val>,
+        operands: &Operands<Slot>,
+        locals: &Locals<Slot>,
         state: &mut State<'s>,
     ) -> Result<Option<Jump>, AllocError>
         ensures { IfOk result (λ over. EndedAs (task_of self.now item.now) (ended_by jump (record { operands = operands.now.used; locals = locals.now.used; state = state.old })) over state.new) }
@@ -89,7 +90,7 @@ impl<'p> Program<'p> {
         place: u32,
         item: &Item,
         state: &mut State,
-    ) -> Result<Begun<Val>, AllocError>
+    ) -> Result<Begun<Slot>, AllocError>
         ensures { IfOk result (λ begun. BegunAs (part_task unbounded (item_task (module_of self.now) place item.now)) state.old begun state.new) }
     {
         match self.next(item) {
@@ -115,7 +116,7 @@ impl<'p> Program<'p> {
         place: u32,
         item: &Item,
         jump: Option<Jump>,
-        operands: &Operands<Val>,
+        operands: &Operands<Slot>,
         state: &mut State,
     ) -> Result<Option<Jump>, AllocError>
         ensures { IfOk result (λ over. (locals : List Val) → EndedAs (part_task unbounded (item_task (module_of self.now) place item.now)) (ended_by jump (record { operands = operands.now.used; locals = locals; state = state.old })) over state.new) }

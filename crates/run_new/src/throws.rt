@@ -10,6 +10,7 @@ ghost use Rattle.run_new.specs.Leaves.{Does};
 ghost use Rattle.run_new.specs.States.{unbounded};
 
 use crate::exception::Exception;
+use crate::slot::Slot;
 use crate::state::State;
 use crate::store::Store;
 use evaluation_kit::Jump;
@@ -26,8 +27,8 @@ impl<'a> Store<'a> {
         &mut self,
         tag: u32,
         count: usize,
-        operands: &Operands<Val>,
-    ) -> Result<Change<Val>, AllocError>
+        operands: &Operands<Slot>,
+    ) -> Result<Change<Slot>, AllocError>
         ensures { IfOk result (λ change. (locals : List Val) (s : states.State) → Changes (throw tag count) operands.now locals (with_store self.old s) change locals (with_store self.new s)) }
     {
         let number = u32::try_from(self.exceptions.len()).map_err(|_| AllocError)?;
@@ -38,10 +39,10 @@ impl<'a> Store<'a> {
 }
 
 /// What throw_ref does: the exception to which the operand refers is thrown again, and null traps.
-pub(crate) fn throw_ref(top: Val) -> Change<Val>
+pub(crate) fn throw_ref(top: Slot) -> Change<Slot>
     ensures { (s : states.State) → Does throw_ref (top ∷ []) s result s }
 {
-    match top {
+    match top.value() {
         Val::Exn(exception) => Change::Exit(1, Jump::Throw(exception)),
         _ => Change::Exit(1, Jump::Trap),
     }
@@ -55,7 +56,7 @@ impl<'a> State<'a> {
         &mut self,
         clauses: &[Catch],
         exception: u32,
-        operands: &mut Operands<Val>,
+        operands: &mut Operands<Slot>,
     ) -> Result<Option<Jump>, AllocError>
         ensures { IfOk result (λ jump. Handled (part_handler unbounded (handler clauses.now)) exception operands.old self.old operands.new self.new jump) }
     {
@@ -70,7 +71,7 @@ impl<'a> State<'a> {
             }
             Some(Catch::TagRef(_, label)) => {
                 put_all(operands, thrown.values())?;
-                operands.push(Val::Exn(exception))?;
+                operands.push(Slot::exn(exception))?;
                 self.tell_capture()?;
                 Ok(Some(Jump::Branch(label)))
             }
@@ -80,7 +81,7 @@ impl<'a> State<'a> {
             }
             Some(Catch::AllRef(label)) => {
                 operands.clear();
-                operands.push(Val::Exn(exception))?;
+                operands.push(Slot::exn(exception))?;
                 self.tell_capture()?;
                 Ok(Some(Jump::Branch(label)))
             }
@@ -111,7 +112,7 @@ fn takes(tag: u32, clause: Catch) -> bool
 }
 
 /// Puts values in the place of all operands in use, the last one topmost.
-pub(crate) fn put_all(operands: &mut Operands<Val>, values: &[Val]) -> Result<(), AllocError>
+pub(crate) fn put_all(operands: &mut Operands<Slot>, values: &[Slot]) -> Result<(), AllocError>
     ensures { OnOk result (operands.new ≡ record operands.old { used = reverse values.now }) }
 {
     operands.clear();

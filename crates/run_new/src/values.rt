@@ -8,40 +8,13 @@ ghost use Rattle.meaning_new.specs.Store.{State};
 ghost use Rattle.meaning_new.specs.Forms.{function_of, holds, select};
 ghost use Rattle.run_new.specs.Leaves.{Does, fits_or_trap};
 
+use crate::slot::Slot;
 use evaluation_kit::Jump;
 use host_kit::Value;
 use meaning_new::Val;
 use num_core::operators::Width;
 use run_kit::Change;
 use wasm_ast::module::Ty;
-
-/// What a value that is not there is taken for.
-pub(crate) const MISSING: Val = Val::I32(0);
-
-/// The number that a value is; a reference is none, and is taken for 0.
-#[inline(always)]
-pub(crate) fn number(value: Val) -> u128
-    ensures { result ≡ number value }
-{
-    match value {
-        Val::I32(i) => i.into(),
-        Val::I64(i) => i.into(),
-        Val::V128(v) => v,
-        Val::Func(_) | Val::Extern(_) | Val::Exn(_) | Val::Null(_) => 0,
-    }
-}
-
-/// The value of a width that an integer is.
-#[inline(always)]
-pub(crate) fn int(width: Width, i: u64) -> Val
-    requires { i < 2 ^ bits width }
-    ensures { result ≡ int width i }
-{
-    match width {
-        Width::W32 => Val::I32(i as u32),
-        Width::W64 => Val::I64(i),
-    }
-}
 
 /// The width of the addresses of a memory.
 pub(crate) fn address_width(wide: bool) -> Width
@@ -50,48 +23,40 @@ pub(crate) fn address_width(wide: bool) -> Width
     if wide { Width::W64 } else { Width::W32 }
 }
 
-/// The value of a truth: 1 or 0.
-#[inline(always)]
-pub(crate) fn truth(holds: bool) -> Val
-    ensures { result ≡ truth holds }
-{
-    Val::I32(holds.into())
-}
-
 /// Whether a value is a null reference.
-pub(crate) fn is_null(value: Val) -> bool
+pub(crate) fn is_null(value: Slot) -> bool
     ensures { result ≡ is_null value }
 {
-    matches!(value, Val::Null(_))
+    matches!(value.value(), Val::Null(_))
 }
 
 /// The function to which a value refers, if it refers to one.
-pub(crate) fn function_of(value: Val) -> Option<u32>
+pub(crate) fn function_of(value: Slot) -> Option<u32>
     ensures { result ≡ function_of value }
 {
-    match value {
+    match value.value() {
         Val::Func(func) => Some(func),
         _ => None,
     }
 }
 
 /// What a declared local of a type begins with (the standard's "Default Values").
-pub(crate) fn default(ty: Ty) -> Val
+pub(crate) fn default(ty: Ty) -> Slot
     ensures { result ≡ default ty }
 {
     match ty {
-        Ty::I64 => Val::I64(0),
-        Ty::V128 => Val::V128(0),
-        Ty::Func | Ty::Extern | Ty::Exn => Val::Null(ty),
-        Ty::I32 | Ty::F32 | Ty::F64 => Val::I32(0),
+        Ty::I64 => Slot::i64(0),
+        Ty::V128 => Slot::v128(0),
+        Ty::Func | Ty::Extern | Ty::Exn => Slot::null(ty),
+        Ty::I32 | Ty::F32 | Ty::F64 => Slot::i32(0),
     }
 }
 
 /// A value as its host sees it.
-pub(crate) fn to_host(value: Val) -> Value
+pub(crate) fn to_host(value: Slot) -> Value
     ensures { result ≡ to_host value }
 {
-    match value {
+    match value.value() {
         Val::I32(i) => Value::I32(i),
         Val::I64(i) => Value::I64(i),
         Val::V128(v) => Value::V128((v % (1 << 64)) as u64, (v / (1 << 64)) as u64),
@@ -113,43 +78,35 @@ fn null_to_host(ty: Ty) -> Value
 }
 
 /// A value of the host's.
-pub(crate) fn from_host(value: Value) -> Val
+pub(crate) fn from_host(value: Value) -> Slot
     ensures { result ≡ from_host value }
 {
     match value {
-        Value::I32(i) => Val::I32(i),
-        Value::I64(i) => Val::I64(i),
-        Value::V128(low, high) => Val::V128(low as u128 + high as u128 * (1 << 64)),
-        Value::Func(func) => Val::Func(func),
-        Value::Extern(number) => Val::Extern(number),
-        Value::NullFunc => Val::Null(Ty::Func),
-        Value::NullExtern => Val::Null(Ty::Extern),
+        Value::I32(i) => Slot::i32(i),
+        Value::I64(i) => Slot::i64(i),
+        Value::V128(low, high) => Slot::v128(low as u128 + high as u128 * (1 << 64)),
+        Value::Func(func) => Slot::func(func),
+        Value::Extern(number) => Slot::external(number),
+        Value::NullFunc => Slot::null(Ty::Func),
+        Value::NullExtern => Slot::null(Ty::Extern),
     }
-}
-
-/// Whether the condition on the top holds: it is not 0 (the standard's "Control Instructions", if).
-#[inline(always)]
-pub(crate) fn is_true(top: Val) -> bool
-    ensures { result ≡ not (nat_eq (number top) 0) }
-{
-    number(top) != 0
 }
 
 /// What select does: the first of the lower two operands where the condition on the top holds, else the second (the
 /// standard's "Parametric Instructions").
 #[inline(always)]
-pub(crate) fn select(top: Val, second: Val, first: Val) -> Change<Val>
+pub(crate) fn select(top: Slot, second: Slot, first: Slot) -> Change<Slot>
     ensures { (s : State) → Does (on_operands select) (top ∷ second ∷ first ∷ []) s result s }
 {
-    Change::Put(3, if is_true(top) { first } else { second })
+    Change::Put(3, if top.is_true() { first } else { second })
 }
 
 /// What br_if does: the branch to a label where the condition on the top holds (the standard's "Control Instructions").
 #[inline(always)]
-pub(crate) fn branch_if(label: u32, top: Val) -> Change<Val>
+pub(crate) fn branch_if(label: u32, top: Slot) -> Change<Slot>
     ensures { (s : State) → Does (branch_if holds label) (top ∷ []) s result s }
 {
-    if is_true(top) {
+    if top.is_true() {
         Change::Exit(1, Jump::Branch(label))
     } else {
         Change::Take(1)
@@ -158,10 +115,10 @@ pub(crate) fn branch_if(label: u32, top: Val) -> Change<Val>
 
 /// What br_table does: the branch to the label that the top numbers, or to the last one (the standard's "Control
 /// Instructions").
-pub(crate) fn branch_table(labels: &[u32], last: u32, top: Val) -> Change<Val>
+pub(crate) fn branch_table(labels: &[u32], last: u32, top: Slot) -> Change<Slot>
     ensures { (s : State) → Does (branch_table first labels.now last) (top ∷ []) s result s }
 {
-    let label = match usize::try_from(number(top)) {
+    let label = match usize::try_from(top.number()) {
         Ok(place) => labels.get(place).copied().unwrap_or(last),
         Err(_) => last,
     };
@@ -169,7 +126,7 @@ pub(crate) fn branch_table(labels: &[u32], last: u32, top: Val) -> Change<Val>
 }
 
 /// What an instruction does that takes so many operands where a range is inside, and else traps.
-pub(crate) fn fits_or_trap(fits: bool, count: usize) -> Change<Val>
+pub(crate) fn fits_or_trap(fits: bool, count: usize) -> Change<Slot>
     ensures { result ≡ fits_or_trap fits count }
 {
     if fits {

@@ -6,23 +6,21 @@ ghost use Rattle.meaning_new.specs.Numeric.{pure, lane_width};
 ghost use Rattle.lane_core.specs.Shapes.{extract_shape};
 ghost use Rattle.run_new.specs.Leaves.{Does, IsOnVectors};
 
-use crate::numeric::integer;
-use crate::values::{int, number};
+use crate::slot::Slot;
 use lane_core::operations::{
     bitselect, extract, lanes1, lanes2, replace, shift, shuffle, splat, test,
 };
 use lane_core::operators::LaneExtract;
 use lane_core::vector::{Shape, V};
-use meaning_new::Val;
 use num_core::operators::Width;
 use run_kit::Change;
 use wasm_ast::module::Op;
 
 /// The vector that a value is.
-pub(crate) fn vector(value: Val) -> V
+pub(crate) fn vector(value: Slot) -> V
     ensures { result.0 ≡ number value }
 {
-    V(number(value))
+    V(value.number())
 }
 
 /// The width of the integer that a lane of a shape is taken for.
@@ -48,43 +46,43 @@ fn extract_shape(op: LaneExtract) -> Shape
 }
 
 /// What extract_lane does.
-fn extract_lane(op: LaneExtract, lane: u8, top: Val) -> Change<Val>
+fn extract_lane(op: LaneExtract, lane: u8, top: Slot) -> Change<Slot>
     ensures { (s : State) → Does (on_operands (pure (Op.Extract op lane))) (top ∷ []) s result s }
 {
     let i = extract(op, vector(top), lane);
-    Change::Put(1, int(lane_width(extract_shape(op)), i))
+    Change::Put(1, Slot::of_width(lane_width(extract_shape(op)), i))
 }
 
 /// What an instruction on vectors alone does to the topmost operands.
-pub(crate) fn vector_operator(op: Op, top: Val, next: Val, third: Val) -> Change<Val>
+pub(crate) fn vector_operator(op: Op, top: Slot, next: Slot, third: Slot) -> Change<Slot>
     requires { IsOnVectors op }
     ensures { (s : State) → Does (on_operands (pure op)) (top ∷ next ∷ third ∷ []) s result s }
 {
     match op {
-        Op::V128Const(v) => Change::Put(0, Val::V128(v.0)),
+        Op::V128Const(v) => Change::Put(0, Slot::v128(v.0)),
         Op::Bitselect => Change::Put(
             3,
-            Val::V128(bitselect(vector(third), vector(next), vector(top)).0),
+            Slot::v128(bitselect(vector(third), vector(next), vector(top)).0),
         ),
         Op::Shuffle(places) => {
-            Change::Put(2, Val::V128(shuffle(vector(next), vector(top), places).0))
+            Change::Put(2, Slot::v128(shuffle(vector(next), vector(top), places).0))
         }
         Op::Splat(shape) => {
-            let i = integer(lane_width(shape), top);
-            Change::Put(1, Val::V128(splat(shape, i).0))
+            let i = top.integer(lane_width(shape));
+            Change::Put(1, Slot::v128(splat(shape, i).0))
         }
         Op::Extract(op, lane) => extract_lane(op, lane, top),
         Op::Replace(shape, lane) => {
-            let i = integer(lane_width(shape), top);
-            Change::Put(2, Val::V128(replace(shape, vector(next), lane, i).0))
+            let i = top.integer(lane_width(shape));
+            Change::Put(2, Slot::v128(replace(shape, vector(next), lane, i).0))
         }
-        Op::Lanes1(op) => Change::Put(1, Val::V128(lanes1(op, vector(top)).0)),
-        Op::Lanes2(op) => Change::Put(2, Val::V128(lanes2(op, vector(next), vector(top)).0)),
+        Op::Lanes1(op) => Change::Put(1, Slot::v128(lanes1(op, vector(top)).0)),
+        Op::Lanes2(op) => Change::Put(2, Slot::v128(lanes2(op, vector(next), vector(top)).0)),
         Op::ShiftLanes(op) => {
-            let count = integer(Width::W32, top) as u32;
-            Change::Put(2, Val::V128(shift(op, vector(next), count).0))
+            let count = top.integer(Width::W32) as u32;
+            Change::Put(2, Slot::v128(shift(op, vector(next), count).0))
         }
-        Op::TestLanes(op) => Change::Put(1, Val::I32(test(op, vector(top)))),
+        Op::TestLanes(op) => Change::Put(1, Slot::i32(test(op, vector(top)))),
         _ => Change::Take(0),
     }
 }

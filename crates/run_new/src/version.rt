@@ -7,19 +7,18 @@ ghost use Rattle.meaning_new.specs.Store.{default};
 ghost use Rattle.run_new.specs.Nodes.{node_form, node_callee, node_acts};
 ghost use Rattle.run_new.specs.NodeLaws.{node_laws};
 
-use crate::leaves::{is_plain, plain, top};
+use crate::leaves::{plain, top};
 use crate::program::{Callee, Program, param_count};
+use crate::slot::Slot;
 use crate::state::State;
-use crate::values::{default, is_true};
+use crate::values::default;
 use evaluation_kit::Jump;
 use machine_kit::{Body, Head, Locals, Operands, Step, Target, Version};
-use meaning_new::Val;
-use run_kit::settle;
 use std::alloc::AllocError;
 use typed_trees::Node;
 use wasm_ast::module::{Instr, Ty};
 
-impl<'p, 's> Version<Node, Val, State<'s>> for Program<'p> {
+impl<'p, 's> Version<Node, Slot, State<'s>> for Program<'p> {
     ghost acts = { λ p. node_acts p };
 
     fn head<'a>(&self, instr: &'a Node) -> Head<'a, Node>
@@ -49,25 +48,21 @@ impl<'p, 's> Version<Node, Val, State<'s>> for Program<'p> {
     fn leaf(
         &self,
         instr: &Node,
-        operands: &mut Operands<Val>,
-        locals: &mut Locals<Val>,
+        operands: &mut Operands<Slot>,
+        locals: &mut Locals<Slot>,
         state: &mut State<'s>,
     ) -> Result<Step, AllocError>
         ensures { IfOk result (λ step. StepIs (node_form (module_of self.now) instr.now) step operands.old locals.old state.old operands.new locals.new state.new) }
     {
-        if !is_plain(&instr.head) {
-            return Ok(Step::Form);
-        }
-        let change = plain(self, &instr.head, operands, locals, state)?;
-        let jump = settle(change, operands)?;
-        Ok(Step::done(jump))
+        let step = plain(self, &instr.head, operands, locals, state)?;
+        Ok(step)
     }
 
-    fn test(&self, instr: &Node, operands: &Operands<Val>) -> bool
+    fn test(&self, instr: &Node, operands: &Operands<Slot>) -> bool
         ensures { result ≡ test_of (node_form (module_of self.now) instr.now) operands.now.used }
     {
         match &instr.head {
-            Instr::If(_, _, _) => is_true(top(operands)),
+            Instr::If(_, _, _) => top(operands).is_true(),
             _ => false,
         }
     }
@@ -75,8 +70,8 @@ impl<'p, 's> Version<Node, Val, State<'s>> for Program<'p> {
     fn pick(
         &self,
         instr: &Node,
-        operands: &Operands<Val>,
-        _locals: &Locals<Val>,
+        operands: &Operands<Slot>,
+        _locals: &Locals<Slot>,
         state: &State<'s>,
     ) -> Option<u32>
         ensures { result ≡ pick_of (node_form (module_of self.now) instr.now) (record { operands = operands.now.used; locals = _locals.now.used; state = state.now }) }
@@ -93,7 +88,7 @@ impl<'p, 's> Version<Node, Val, State<'s>> for Program<'p> {
         &self,
         instr: &Node,
         exception: u32,
-        operands: &mut Operands<Val>,
+        operands: &mut Operands<Slot>,
         state: &mut State<'s>,
     ) -> Result<Option<Jump>, AllocError>
         ensures { IfOk result (λ jump. Handled (handler_of (node_form (module_of self.now) instr.now)) exception operands.old state.old operands.new state.new jump) }
@@ -120,7 +115,7 @@ impl<'p, 's> Version<Node, Val, State<'s>> for Program<'p> {
         }
     }
 
-    fn zeros(&self, func: u32, locals: &mut Locals<Val>) -> Result<(), AllocError>
+    fn zeros(&self, func: u32, locals: &mut Locals<Slot>) -> Result<(), AllocError>
         ensures { OnOk result (locals.new ≡ record locals.old { used = locals.old.used ++ zeros_of (node_callee self.now func) }) }
     {
         match self.find(func) {
@@ -132,7 +127,7 @@ impl<'p, 's> Version<Node, Val, State<'s>> for Program<'p> {
     fn host(
         &self,
         func: u32,
-        operands: &mut Operands<Val>,
+        operands: &mut Operands<Slot>,
         state: &mut State<'s>,
     ) -> Result<Option<Jump>, AllocError>
         ensures { IfOk result (λ jump. Hosted (host_of (node_callee self.now func)) operands.old state.old operands.new state.new jump) }
@@ -147,7 +142,7 @@ impl<'p, 's> Version<Node, Val, State<'s>> for Program<'p> {
 }
 
 /// More locals, each with what a local of its type begins with.
-fn push_zeros(locals: &mut Locals<Val>, types: &[Ty]) -> Result<(), AllocError>
+fn push_zeros(locals: &mut Locals<Slot>, types: &[Ty]) -> Result<(), AllocError>
     ensures { OnOk result (locals.new ≡ record locals.old { used = locals.old.used ++ map default types.now }) }
 {
     for ty in types {

@@ -1,24 +1,18 @@
-use Rattle.std.proofs.Common.{refl, sym, ap, ◌∙◌}
-use Rattle.wasm_ast.specs.declared.module.code.Instr.{out-Instr, out-roll-Instr}
-use Rattle.wasm_ast.specs.declared.module.code.Instr.TheVariants.{rolls-Throw}
-use Rattle.wasm_ast.specs.declared.module.code.Instr.TheOpen.{Instr-F}
+use Rattle.std.proofs.Common.{refl}
 use Rattle.typed_trees.specs.Typed.{module_of}
 use Rattle.run_new.specs.Leaves.{act}
-use Rattle.run_new.proofs.Stored.{in_state, thrown_in_state}
+use Rattle.run_new.proofs.Plain.{is_done_instr, is_access_plain, is_vector_access_plain}
+use Rattle.run_new.proofs.Stored.{ended_in_state}
 use Rattle.run_new.proofs.leaves.plain.Goals as goal
 
-pub returns-in_ok-change-in-Throw : goal.returns-in_ok-change-in-Throw
-returns-in_ok-change-in-Throw c =
-    (thrown_in_state _ c.args.state.now c.state.view_is (module_of c.args.program.now) c.args.instr.now c.in-Throw.tag c.tag_values-count.result c.args.operands.now c.args.locals.now.used c.throw.new.self c.in_ok-change-in-Throw.change (ap out-Instr (c.in-Throw.is ∙ sym (rolls-Throw c.in-Throw.tag)) ∙ out-roll-Instr (Instr-F.Throw c.in-Throw.tag)) c.tag_values-count.ensures (c.in_ok-change-in-Throw.ensures c.args.locals.now.used), refl)
+pub returns-in_ok-access_leaf-in-GlobalGet : goal.returns-in_ok-access_leaf-in-GlobalGet
+returns-in_ok-access_leaf-in-GlobalGet c =
+    rw c.done-in-GlobalGet.ensures (is_done_instr (module_of c.args.program.now) c.args.instr.now c.args.operands.now c.access_leaf.new.operands c.args.locals.now c.args.locals.now c.args.state.now _ c.in_ok-access_leaf-in-GlobalGet.field-0 (is_access_plain c.args.instr.now c.in-GlobalGet.is)
+    (ended_in_state _ c.args.state.now c.state-in-GlobalGet.view_is (act (module_of c.args.program.now) c.args.instr.now) c.args.operands.now c.access_leaf.new.operands c.args.locals.now.used c.access_leaf.new.store c.in_ok-access_leaf-in-GlobalGet.field-0 (c.in_ok-access_leaf-in-GlobalGet.ensures (module_of c.args.program.now) c.args.locals.now.used))
+    refl)
 
-pub returns-in_ok-change-in-TableGet : goal.returns-in_ok-change-in-TableGet
-returns-in_ok-change-in-TableGet c =
-    (in_state _ c.args.state.now c.state-in-TableGet.view_is (act (module_of c.args.program.now) c.args.instr.now) c.args.operands.now c.args.locals.now.used c.table_leaf.new.store c.in_ok-change-in-TableGet.change (c.in_ok-change-in-TableGet.ensures (module_of c.args.program.now) c.args.locals.now.used), refl)
-
-pub returns-in_ok-change-in-MemorySize : goal.returns-in_ok-change-in-MemorySize
-returns-in_ok-change-in-MemorySize c =
-    (in_state _ c.args.state.now c.state-in-MemorySize.view_is (act (module_of c.args.program.now) c.args.instr.now) c.args.operands.now c.args.locals.now.used c.memory_leaf.new.store c.in_ok-change-in-MemorySize.change (c.in_ok-change-in-MemorySize.ensures (module_of c.args.program.now) c.args.locals.now.used), refl)
-
-pub returns-in-GlobalGet : goal.returns-in-GlobalGet
-returns-in-GlobalGet c =
-    (in_state _ c.args.state.now c.state-in-GlobalGet.view_is (act (module_of c.args.program.now) c.args.instr.now) c.args.operands.now c.args.locals.now.used c.access_leaf.new.store c.access_leaf.result (c.access_leaf.ensures (module_of c.args.program.now) c.args.locals.now.used), refl)
+pub returns-in_ok-vector_leaf-in-LoadVector : goal.returns-in_ok-vector_leaf-in-LoadVector
+returns-in_ok-vector_leaf-in-LoadVector c =
+    rw c.done-in-LoadVector.ensures (is_done_instr (module_of c.args.program.now) c.args.instr.now c.args.operands.now c.vector_leaf.new.operands c.args.locals.now c.args.locals.now c.args.state.now _ c.in_ok-vector_leaf-in-LoadVector.field-0 (is_vector_access_plain c.args.instr.now c.in-LoadVector.is)
+    (ended_in_state _ c.args.state.now c.state.view_is (act (module_of c.args.program.now) c.args.instr.now) c.args.operands.now c.vector_leaf.new.operands c.args.locals.now.used c.vector_leaf.new.store c.in_ok-vector_leaf-in-LoadVector.field-0 (c.in_ok-vector_leaf-in-LoadVector.ensures (module_of c.args.program.now) c.args.locals.now.used))
+    refl)

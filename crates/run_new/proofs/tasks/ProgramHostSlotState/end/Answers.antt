@@ -4,7 +4,7 @@ use Rattle.machine_kit.specs.Calls.{EndedAs}
 use Rattle.meaning_new.specs.Runs.{started}
 use Rattle.run_new.specs.Tasks.{task_of}
 use Rattle.run_new.proofs.Ending.{ends}
-use Rattle.run_new.proofs.tasks.ProgramHostValState.end.Goals as goal
+use Rattle.run_new.proofs.tasks.ProgramHostSlotState.end.Goals as goal
 
 pub returns-in_ok-start_ended-in-Start : goal.returns-in_ok-start_ended-in-Start
 returns-in_ok-start_ended-in-Start c =
