@@ -22,7 +22,7 @@ use read_new::read;
 use std::alloc::Global;
 use typed_trees::TypedModule;
 use valid_core1::{Typed1, validate1};
-use valid_mod::validate;
+use valid_mod::{validate, validate_owned};
 use wasm_ast::module::Module;
 use wasm_frame::sections::Version;
 
@@ -108,26 +108,39 @@ pub fn type3(alloc: Global, source: &Module) -> Result<TypedModule, NotFine>
     type_source(alloc, source)
 }
 
-/// The same of a module that is to be lowered: one with what no pass takes yet is refused too.
+/// The same of a module that is to be lowered, which is used up: one with what no pass takes yet is refused too.
 pub fn type_to_lower(
     alloc: Global,
-    source: &Module,
+    source: Module,
     settings: &Settings,
 ) -> Result<TypedModule, NotFine>
-    requires { Agrees source.now }
-    ensures stands { IfOk result (StandsFor source.now) }
-    ensures runs { IfOk result (λ typed. SameRuns source.now (module_of typed)) }
-    ensures fine { OnOk result (CanLower source.now) }
-    ensures refused { IfErr result (λ fault. IfNotFine fault (λ refusal. RefusesLowering refusal source.now)) }
+    requires { Agrees source }
+    ensures stands { IfOk result (StandsFor source) }
+    ensures runs { IfOk result (λ typed. SameRuns source (module_of typed)) }
+    ensures fine { OnOk result (CanLower source) }
+    ensures refused { IfErr result (λ fault. IfNotFine fault (λ refusal. RefusesLowering refusal source)) }
 {
-    check_stack(alloc, source, settings)?;
-    type_source(alloc, source)
+    check_stack(alloc, &source, settings)?;
+    type_owned(alloc, source)
 }
 
-/// A module of 3.0 with its types, whichever list it was held against.
+/// A module of 3.0 with its types, made of its own parts.
+fn type_owned(alloc: Global, source: Module) -> Result<TypedModule, NotFine>
+    requires { Agrees source }
+    ensures stands { IfOk result (StandsFor source) }
+    ensures runs { IfOk result (λ typed. SameRuns source (module_of typed)) }
+    ensures fine { OnOk result (IsTyped source) }
+    ensures refused { IfErr result (λ fault. IfNotFine fault (λ refusal. IsUntypedAt refusal source)) }
+{
+    match validate_owned(alloc, source) {
+        Ok(typed) => Ok(typed),
+        Err(invalid) => Err(NotFine::from(invalid)),
+    }
+}
+
+/// A module of 3.0 with its types.
 fn type_source(alloc: Global, source: &Module) -> Result<TypedModule, NotFine>
     requires { Agrees source.now }
-    ensures stands { IfOk result (StandsFor source.now) }
     ensures runs { IfOk result (λ typed. SameRuns source.now (module_of typed)) }
     ensures fine { OnOk result (IsTyped source.now) }
     ensures refused { IfErr result (λ fault. IfNotFine fault (λ refusal. IsUntypedAt refusal source.now)) }

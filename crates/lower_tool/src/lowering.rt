@@ -14,15 +14,15 @@ use crate::verdict::NotFine;
 use core1_bytes::write1;
 use num_core::lists::Bytes;
 use pass_law::Settings;
-use pass_stack::lower_module;
+use pass_stack::lower_module_owned;
 use read_new::read;
 use std::alloc::{AllocError, Global};
 use typed_trees::TypedModule;
 use wasm_ast::module::Module;
 
 /// The lowered module, with room for so many captured exceptions. It takes the bytes of a module that lies in the profile,
-/// that passes take and that is typed, and refuses all others by the first step of the verdict that holds. What it has read
-/// is dropped as soon as it is not needed any more.
+/// that passes take and that is typed, and refuses all others by the first step of the verdict that holds. Each form of the
+/// module is used up while the next one is made.
 pub fn lower_bytes(alloc: Global, bytes: Bytes, captures: u32) -> Result<Bytes, NotFine>
     requires limit { length bytes ≤ file_limit }
     requires least { 1 ≤ captures }
@@ -45,8 +45,7 @@ fn lower_source(alloc: Global, source: Module, settings: Settings) -> Result<Byt
     ensures fine { OnOk result (CanLower source) }
     ensures refused { IfErr result (λ fault. IfNotFine fault (λ refusal. RefusesLowering refusal source)) }
 {
-    let typed = type_to_lower(alloc, &source, &settings)?;
-    drop(source);
+    let typed = type_to_lower(alloc, source, &settings)?;
     Ok(write_lowered(alloc, typed, settings)?)
 }
 
@@ -57,7 +56,6 @@ fn write_lowered(alloc: Global, typed: TypedModule, settings: Settings) -> Resul
     requires most { settings.captures ≤ 16384 }
     ensures { IfOk result (IsWrittenFor settings.captures (module_of typed)) }
 {
-    let lowered = lower_module(alloc, &typed, &settings)?;
-    drop(typed);
+    let lowered = lower_module_owned(alloc, typed, &settings)?;
     write1(alloc, &lowered)
 }

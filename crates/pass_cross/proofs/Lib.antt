@@ -12,7 +12,7 @@ pub mod Whole
 pub mod Typing
 pub mod Writing
 pub mod Arms
-pub mod SameParts
+pub mod Joining
 pub mod Linking
 pub mod Shortness
 pub mod InRange

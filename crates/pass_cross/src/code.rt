@@ -8,6 +8,7 @@ ghost use Rattle.typed_trees.specs.Trees.{erased};
 ghost use Rattle.crossing.specs.Code.{cross_argument, cross_conversion, cross_op, cross_code};
 ghost use Rattle.pass_cross.specs.Code.{cross_leaf, crossed_instr, crossed_node};
 
+use crate::lists::room_for;
 use crate::types::{cross_block, narrow};
 use core1_ast::module::{Code1, Conv1, Instr1, MemArg1, Op1};
 use num_core::operators::Conv;
@@ -87,7 +88,7 @@ fn cross_leaf(head: &Instr) -> Result<Instr1, AllocError>
 pub(crate) fn cross_nodes(alloc: Global, nodes: &[Node]) -> Result<Code1, AllocError>
     ensures { IfOk result (λ out. out ≡ cross_code (erased nodes.now)) }
 {
-    let mut out = Items::new(alloc);
+    let mut out = room_for(alloc, nodes.len())?;
     for node in nodes {
         out.push(cross_node(alloc, node)?)?;
     }
@@ -119,7 +120,7 @@ fn cross_node(alloc: Global, node: &Node) -> Result<Instr1, AllocError>
 pub(crate) fn cross_code(alloc: Global, code: &[Instr]) -> Result<Code1, AllocError>
     ensures { IfOk result (λ out. out ≡ cross_code code.now) }
 {
-    let mut out = Items::new(alloc);
+    let mut out = room_for(alloc, code.len())?;
     for instr in code {
         out.push(cross_instr(alloc, instr)?)?;
     }

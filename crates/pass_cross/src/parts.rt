@@ -6,12 +6,14 @@ ghost use Rattle.wasm_ast.specs.declared.module.code.Instr.{out-Instr};
 ghost use Rattle.crossing.specs.Modules.{cross_func_type, cross_limits, cross_import_desc, cross_import, cross_global, cross_export_desc, cross_export, referred, cross_item, cross_active, cross_element, cross_segment, cross_body};
 
 use crate::code::{cross_code, cross_nodes};
+use crate::lists::room_for;
 use crate::types::{cross_limits, cross_type, cross_types};
 use core1_ast::module::{
     Body1, Element1, Export1, ExportDesc1, FuncType1, Global1, Import1, ImportDesc1, Limits1,
     Segment1, Ty1,
 };
-use num_core::lists::TryCopy;
+use num_core::lists::{Bytes, TryCopy};
+use owned_lists::Drain;
 use sqlite_items::Items;
 use std::alloc::{AllocError, Global};
 use typed_trees::TypedFn;
@@ -28,7 +30,7 @@ pub(crate) fn cross_func_types(
 ) -> Result<Items<FuncType1>, AllocError>
     ensures { IfOk result (λ out. out ≡ map cross_func_type types.now) }
 {
-    let mut out = Items::new(alloc);
+    let mut out = room_for(alloc, types.len())?;
     for ty in types {
         let params = cross_types(alloc, ty.params.as_slice())?;
         let results = cross_types(alloc, ty.results.as_slice())?;
@@ -54,7 +56,7 @@ fn cross_import_desc(desc: ImportDesc) -> Result<ImportDesc1, AllocError>
 pub(crate) fn cross_imports(alloc: Global, imports: &[Import]) -> Result<Items<Import1>, AllocError>
     ensures { IfOk result (λ out. out ≡ map cross_import imports.now) }
 {
-    let mut out = Items::new(alloc);
+    let mut out = room_for(alloc, imports.len())?;
     for import in imports {
         let desc = cross_import_desc(import.desc)?;
         let module = import.module.copy(alloc)?;
@@ -68,7 +70,7 @@ pub(crate) fn cross_imports(alloc: Global, imports: &[Import]) -> Result<Items<I
 pub(crate) fn cross_tables(alloc: Global, tables: &[Table]) -> Result<Items<Limits1>, AllocError>
     ensures { IfOk result (λ out. out ≡ map (λ t. cross_limits t.limits) tables.now) }
 {
-    let mut out = Items::new(alloc);
+    let mut out = room_for(alloc, tables.len())?;
     for table in tables {
         out.push(cross_limits(table.limits)?)?;
     }
@@ -82,7 +84,7 @@ pub(crate) fn cross_memories(
 ) -> Result<Items<Limits1>, AllocError>
     ensures { IfOk result (λ out. out ≡ map cross_limits memories.now) }
 {
-    let mut out = Items::new(alloc);
+    let mut out = room_for(alloc, memories.len())?;
     for memory in memories {
         out.push(cross_limits(*memory)?)?;
     }
@@ -96,7 +98,7 @@ pub(crate) fn cross_globals(
 ) -> Result<Items<Global1>, AllocError>
     ensures { IfOk result (λ out. out ≡ map cross_global globals.now) }
 {
-    let mut out = Items::new(alloc);
+    let mut out = room_for(alloc, globals.len())?;
     for global in globals {
         let init = cross_code(alloc, global.init.as_slice())?;
         out.push(Global1 {
@@ -124,7 +126,7 @@ fn cross_export_desc(desc: ExportDesc) -> ExportDesc1
 pub(crate) fn cross_exports(alloc: Global, exports: &[Export]) -> Result<Items<Export1>, AllocError>
     ensures { IfOk result (λ out. out ≡ map cross_export exports.now) }
 {
-    let mut out = Items::new(alloc);
+    let mut out = room_for(alloc, exports.len())?;
     for export in exports {
         let name = export.name.copy(alloc)?;
         out.push(Export1 {
@@ -149,7 +151,7 @@ fn cross_item(code: &[Instr]) -> u32
 fn cross_items(alloc: Global, codes: &[Code]) -> Result<Items<u32>, AllocError>
     ensures { IfOk result (λ out. out ≡ map cross_item codes.now) }
 {
-    let mut out = Items::new(alloc);
+    let mut out = room_for(alloc, codes.len())?;
     for code in codes {
         out.push(cross_item(code.as_slice()))?;
     }
@@ -190,12 +192,11 @@ pub(crate) fn cross_elements(
     Ok(out)
 }
 
-/// A data segment. Each is active.
-fn cross_segment(alloc: Global, segment: &Segment) -> Result<Segment1, AllocError>
-    ensures { IfOk result (λ out. out ≡ cross_segment segment.now) }
+/// A data segment with these bytes. Each is active.
+fn cross_segment(alloc: Global, mode: &Mode, bytes: Bytes) -> Result<Segment1, AllocError>
+    ensures { IfOk result (λ out. out ≡ cross_segment (record { mode = mode.now; bytes = bytes })) }
 {
-    let bytes = segment.bytes.copy(alloc)?;
-    match &segment.mode {
+    match mode {
         Mode::Active(memory, offset) => {
             let offset = cross_code(alloc, offset.as_slice())?;
             Ok(Segment1 {
@@ -219,22 +220,61 @@ pub(crate) fn cross_segments(
 ) -> Result<Items<Segment1>, AllocError>
     ensures { IfOk result (λ out. out ≡ map cross_segment segments.now) }
 {
-    let mut out = Items::new(alloc);
+    let mut out = room_for(alloc, segments.len())?;
     for segment in segments {
-        out.push(cross_segment(alloc, segment)?)?;
+        let bytes = segment.bytes.copy(alloc)?;
+        out.push(cross_segment(alloc, &segment.mode, bytes)?)?;
     }
     Ok(out)
+}
+
+/// The data segments, whose bytes are moved.
+pub(crate) fn cross_owned_segments(
+    alloc: Global,
+    segments: Items<Segment>,
+) -> Result<Items<Segment1>, AllocError>
+    ensures { IfOk result (λ out. out ≡ map cross_segment segments) }
+{
+    let mut out = room_for(alloc, segments.len())?;
+    let mut rest = Drain::new(alloc, segments)?;
+    while let Some(segment) = rest.next() {
+        let Segment { mode, bytes } = segment;
+        out.push(cross_segment(alloc, &mode, bytes)?)?;
+    }
+    Ok(out)
+}
+
+/// The body of a function.
+fn cross_body(alloc: Global, f: &TypedFn) -> Result<Body1, AllocError>
+    ensures { IfOk result (λ out. out ≡ cross_body (body_of f.now)) }
+{
+    let locals = cross_types(alloc, f.locals.as_slice())?;
+    let code = cross_nodes(alloc, f.body.as_slice())?;
+    Ok(Body1 { locals, code })
 }
 
 /// The bodies of the functions.
 pub(crate) fn cross_bodies(alloc: Global, fns: &[TypedFn]) -> Result<Items<Body1>, AllocError>
     ensures { IfOk result (λ out. out ≡ map (λ f. cross_body (body_of f)) fns.now) }
 {
-    let mut out = Items::new(alloc);
+    let mut out = room_for(alloc, fns.len())?;
     for f in fns {
-        let locals = cross_types(alloc, f.locals.as_slice())?;
-        let code = cross_nodes(alloc, f.body.as_slice())?;
-        out.push(Body1 { locals, code })?;
+        out.push(cross_body(alloc, f)?)?;
+    }
+    Ok(out)
+}
+
+/// The bodies of the functions, each of which is dropped as soon as its body of 1.0 is written.
+pub(crate) fn cross_owned_bodies(
+    alloc: Global,
+    fns: Items<TypedFn>,
+) -> Result<Items<Body1>, AllocError>
+    ensures { IfOk result (λ out. out ≡ map (λ f. cross_body (body_of f)) fns) }
+{
+    let mut out = room_for(alloc, fns.len())?;
+    let mut rest = Drain::new(alloc, fns)?;
+    while let Some(f) = rest.next() {
+        out.push(cross_body(alloc, &f)?)?;
     }
     Ok(out)
 }

@@ -4,6 +4,7 @@ ghost use Rattle.std.specs.Prelude.{◌≡◌, map, IfOk};
 ghost use Rattle.crossing.specs.Code.{cross_type, cross_block};
 ghost use Rattle.crossing.specs.Modules.{cross_limits};
 
+use crate::lists::room_for;
 use core1_ast::module::{BlockType1, Limits1, Ty1};
 use sqlite_items::Items;
 use std::alloc::{AllocError, Global};
@@ -25,7 +26,7 @@ pub(crate) fn cross_type(ty: Ty) -> Ty1
 pub(crate) fn cross_types(alloc: Global, types: &[Ty]) -> Result<Items<Ty1>, AllocError>
     ensures { IfOk result (λ out. out ≡ map cross_type types.now) }
 {
-    let mut out = Items::new(alloc);
+    let mut out = room_for(alloc, types.len())?;
     for ty in types {
         out.push(cross_type(*ty))?;
     }

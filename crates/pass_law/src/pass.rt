@@ -8,6 +8,7 @@ ghost use Rattle.pass_law.specs.Plans.{Plan, Lawful};
 ghost use Rattle.pass_law.specs.Stages.{Stage};
 
 use crate::settings::Settings;
+use num_core::lists::TryCopy;
 use std::alloc::{AllocError, Global};
 use typed_trees::TypedModule;
 
@@ -16,7 +17,20 @@ pub trait Pass {
     /// What it says of itself.
     ghost plan: { Plan };
 
-    /// The lowered module. It fails for want of memory alone.
+    /// The lowered module; what stays of the module is moved. It fails for want of memory alone.
+    fn lower_owned(
+        &self,
+        alloc: Global,
+        m: TypedModule,
+        settings: &Settings,
+    ) -> Result<TypedModule, AllocError>
+        requires takes { plan.takes (needs_of (module_of m)) ≡ true }
+        requires stage { Stage (module_of m) }
+        requires least { 1 ≤ settings.now.captures }
+        requires most { settings.now.captures ≤ 16384 }
+        ensures law { IfOk result (λ o. Law plan (module_of m) (module_of o) settings.now.captures) };
+
+    /// The same of a copy of the module, which stays as it is.
     fn lower(
         &self,
         alloc: Global,
@@ -27,7 +41,11 @@ pub trait Pass {
         requires stage { Stage (module_of m.now) }
         requires least { 1 ≤ settings.now.captures }
         requires most { settings.now.captures ≤ 16384 }
-        ensures law { IfOk result (λ o. Law plan (module_of m.now) (module_of o) settings.now.captures) };
+        ensures law { IfOk result (λ o. Law plan (module_of m.now) (module_of o) settings.now.captures) }
+    {
+        let copy = m.copy(alloc)?;
+        self.lower_owned(alloc, copy, settings)
+    }
 
     /// The plan is as every plan is.
     ghost lawful: { Lawful plan };

@@ -25,20 +25,20 @@ pub struct Then<P, Q> {
 impl<P: Pass, Q: Pass> Pass for Then<P, Q> {
     ghost plan = { then P.plan Q.plan };
 
-    fn lower(
+    fn lower_owned(
         &self,
         alloc: Global,
-        m: &TypedModule,
+        m: TypedModule,
         settings: &Settings,
     ) -> Result<TypedModule, AllocError>
-        requires takes { (then P.plan Q.plan).takes (needs_of (module_of m.now)) ≡ true }
-        requires stage { Stage (module_of m.now) }
+        requires takes { (then P.plan Q.plan).takes (needs_of (module_of m)) ≡ true }
+        requires stage { Stage (module_of m) }
         requires least { 1 ≤ settings.now.captures }
         requires most { settings.now.captures ≤ 16384 }
-        ensures law { IfOk result (λ o. Law (then P.plan Q.plan) (module_of m.now) (module_of o) settings.now.captures) }
+        ensures law { IfOk result (λ o. Law (then P.plan Q.plan) (module_of m) (module_of o) settings.now.captures) }
     {
-        let between = self.first.lower(alloc, m, settings)?;
-        self.second.lower(alloc, &between, settings)
+        let between = self.first.lower_owned(alloc, m, settings)?;
+        self.second.lower_owned(alloc, between, settings)
     }
 
     ghost lawful = { then_lawful P.plan Q.plan P.lawful Q.lawful };

@@ -1,5 +1,5 @@
 -- A copy of a module keeps the law, whatever the plan says beside it.
-use Rattle.std.proofs.Common.{◌≡◌, ℕ, ◌+◌, ◌*◌, ◌≤◌, true, List, [], ◌∷◌, refl, sym, subst, arith, Result, Ok, Err, IfOk}
+use Rattle.std.proofs.Common.{◌≡◌, ℕ, ◌+◌, ◌*◌, ◌≤◌, true, List, [], ◌∷◌, refl, arith}
 use Rattle.host_kit.specs.Trace.{Mark, Shows, Grown, Captured}
 use Rattle.host_kit.specs.declared.event.Event.{Event}
 use Rattle.host_kit.specs.declared.event.Event.TheVariants.{Full}
@@ -39,11 +39,6 @@ keeps leaves frames more_frames deep m left stage = record {
 pub copied : (leaves : Needs → Needs) (frames more_frames : ℕ) → ((d : ℕ) → d ≤ frames * d + more_frames) → (m : Module) (captures : ℕ) → NoMore (needs_of m) (leaves (needs_of m)) → Stage m → Law (plain takes_all leaves any_event frames more_frames) m m captures
 copied leaves frames more_frames deep m captures left stage =
     plain_law takes_all leaves any_event frames more_frames m m captures (keeps leaves frames more_frames deep m left stage)
-
--- what holds of a module holds of its copy
-pub of_copy : {A E : Type 0} (P : A → Type 0) (m : A) (r : Result A E) → P m → IfOk r (λ copy. copy ≡ m) → IfOk r P
-of_copy P m (Ok copy) h e = subst P (sym e) h
-of_copy P m (Err fault) h e = tt
 
 -- so many calls are open
 pub once : (d : ℕ) → d ≤ 1 * d + 0

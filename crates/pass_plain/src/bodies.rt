@@ -3,7 +3,7 @@
 ghost use Rattle.std.specs.Prelude.{◌≡◌, IfOk};
 ghost use Rattle.pass_plain.specs.Bodies.{rewritten_functions};
 
-use num_core::lists::TryCopy;
+use owned_lists::Drain;
 use rewriting_kit::{Rewriting, rewrite};
 use sqlite_items::Items;
 use std::alloc::{AllocError, Global};
@@ -13,14 +13,15 @@ use typed_trees::TypedFn;
 pub(crate) fn rewrite_functions<E: Copy, R: Rewriting<E>>(
     alloc: Global,
     rewriting: &R,
-    fns: &[TypedFn],
+    fns: Items<TypedFn>,
 ) -> Result<Items<TypedFn>, AllocError>
-    ensures { IfOk result (λ new. new ≡ rewritten_functions (R.entry rewriting.now) (R.layer rewriting.now) fns.now) }
+    ensures { IfOk result (λ new. new ≡ rewritten_functions (R.entry rewriting.now) (R.layer rewriting.now) fns) }
 {
-    let mut new = Items::new(alloc);
-    for f in fns {
-        let locals = f.locals.copy(alloc)?;
-        let body = rewrite(alloc, rewriting, f.body.as_slice())?;
+    let mut new = Items::from_vec(Vec::with_capacity(alloc, fns.len())?);
+    let mut rest = Drain::new(alloc, fns)?;
+    while let Some(f) = rest.next() {
+        let TypedFn { locals, body } = f;
+        let body = rewrite(alloc, rewriting, body)?;
         new.push(TypedFn { locals, body })?;
     }
     Ok(new)

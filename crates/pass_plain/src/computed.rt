@@ -17,7 +17,7 @@ ghost use Rattle.pass_plain.specs.Folding.{tree_without_constants};
 
 use crate::folding::ranges::constants_in_range;
 use crate::folding::setting::setting_code;
-use crate::folding::starting::{started_part, with_start_fn};
+use crate::folding::starting::started;
 use pass_law::{Pass, Settings};
 use std::alloc::{AllocError, Global};
 use typed_trees::TypedModule;
@@ -25,33 +25,32 @@ use typed_trees::TypedModule;
 /// The stage that leaves no constant expressions that compute.
 pub struct Const;
 
-/// The module without constant expressions that compute, in time linear in the module. It fails for want of memory alone:
+/// The module without constant expressions that compute, in time linear in its parts. It fails for want of memory alone:
 /// an index past the greatest is memory that is never found.
-fn without_constants(alloc: Global, m: &TypedModule) -> Result<TypedModule, AllocError>
-    requires foldable { Foldable (module_of m.now) }
-    ensures { IfOk result (λ o. o ≡ tree_without_constants m.now) }
+fn without_constants(alloc: Global, m: TypedModule) -> Result<TypedModule, AllocError>
+    requires foldable { Foldable (module_of m) }
+    ensures { IfOk result (λ o. o ≡ tree_without_constants m) }
 {
-    let (part, fns) = m.tree();
-    let code = setting_code(alloc, part)?;
-    let new = started_part(alloc, part, code.as_slice())?;
-    let all = with_start_fn(alloc, part, code, fns)?;
+    let (part, fns) = m.into_tree();
+    let code = setting_code(alloc, &part)?;
+    let (new, all) = started(alloc, part, code, fns)?;
     Ok(TypedModule::build(new, all))
 }
 
 impl Pass for Const {
     ghost plan = { constant_plan };
 
-    fn lower(
+    fn lower_owned(
         &self,
         alloc: Global,
-        m: &TypedModule,
+        m: TypedModule,
         settings: &Settings,
     ) -> Result<TypedModule, AllocError>
-        requires takes { constant_plan.takes (needs_of (module_of m.now)) ≡ true }
-        requires stage { Stage (module_of m.now) }
+        requires takes { constant_plan.takes (needs_of (module_of m)) ≡ true }
+        requires stage { Stage (module_of m) }
         requires least { 1 ≤ settings.now.captures }
         requires most { settings.now.captures ≤ 16384 }
-        ensures law { IfOk result (λ o. Law constant_plan (module_of m.now) (module_of o) settings.now.captures) }
+        ensures law { IfOk result (λ o. Law constant_plan (module_of m) (module_of o) settings.now.captures) }
     {
         let (part, _) = m.tree();
         constants_in_range(part);

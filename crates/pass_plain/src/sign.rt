@@ -4,11 +4,11 @@
 // Right because: the two shifts do to any operands what the extension does, in no turn as it does, so every body is the
 // same function as before.
 
-ghost use Rattle.std.specs.Prelude.{◌≡◌, ◌≤◌, ◌++◌, [], ◌∷◌, true, IfOk, OnOk};
+ghost use Rattle.std.specs.Prelude.{◌≡◌, ◌≤◌, ◌++◌, [], ◌∷◌, true, IsTrue, IfOk, OnOk};
 ghost use Rattle.wasm_ast.specs.declared.module.code.Instr.TheVariants.{Pure};
 ghost use Rattle.typed_trees.specs.Operands.{int_type};
 ghost use Rattle.typed_trees.specs.Typed.{module_of};
-ghost use Rattle.rewriting_kit.specs.Rewrites.{node_of};
+ghost use Rattle.rewriting_kit.specs.Rewrites.{Stays, node_of};
 ghost use Rattle.pass_law.specs.Law.{Law};
 ghost use Rattle.pass_law.specs.Needs.{needs_of};
 ghost use Rattle.pass_law.specs.Stages.{Stage};
@@ -17,7 +17,6 @@ ghost use Rattle.pass_plain.specs.Plans.{sign_plan, sign_lawful};
 ghost use Rattle.pass_plain.specs.Shifts.{constant, shift, extend, by_shifts};
 
 use crate::bodies::rewrite_functions;
-use num_core::lists::TryCopy;
 use num_core::operators::{Bin, Conv, Width};
 use pass_law::{Pass, Settings};
 use rewriting_kit::{Rewriting, keep};
@@ -39,17 +38,26 @@ impl Rewriting<()> for Sign {
         ensures { result ≡ no_entry _head.now }
     {}
 
+    fn stays(&self, head: &Instr) -> bool
+        ensures { IsTrue result → Stays by_shifts head.now }
+    {
+        match head {
+            Instr::Pure(Op::Convert(op)) => matches!(op, Conv::Wrap | Conv::Ext32S | Conv::Ext32U),
+            _ => true,
+        }
+    }
+
     fn layer(
         &self,
         alloc: Global,
         _around: &[()],
-        head: &Instr,
-        types: &Signature,
+        head: Instr,
+        types: Signature,
         first: Nodes,
         second: Nodes,
         out: &mut Nodes,
     ) -> Result<(), AllocError>
-        ensures { OnOk result (out.new ≡ out.old ++ by_shifts _around.now head.now types.now.0 types.now.1 first second) }
+        ensures { OnOk result (out.new ≡ out.old ++ by_shifts _around.now head types.0 types.1 first second) }
     {
         match head {
             Instr::Pure(Op::Convert(Conv::S8of32)) => put_shifts(alloc, Width::W32, 24, out),
@@ -111,33 +119,25 @@ fn put(alloc: Global, op: Op, takes: &[Ty], gives: &[Ty], out: &mut Nodes) -> Re
 {
     let types = Signature::new(alloc, takes, gives)?;
     let none = Items::new(alloc);
-    keep(
-        alloc,
-        &Instr::Pure(op),
-        &types,
-        Items::new(alloc),
-        none,
-        out,
-    )
+    keep(alloc, Instr::Pure(op), types, Items::new(alloc), none, out)
 }
 
 impl Pass for Sign {
     ghost plan = { sign_plan };
 
-    fn lower(
+    fn lower_owned(
         &self,
         alloc: Global,
-        m: &TypedModule,
+        m: TypedModule,
         settings: &Settings,
     ) -> Result<TypedModule, AllocError>
-        requires takes { sign_plan.takes (needs_of (module_of m.now)) ≡ true }
-        requires stage { Stage (module_of m.now) }
+        requires takes { sign_plan.takes (needs_of (module_of m)) ≡ true }
+        requires stage { Stage (module_of m) }
         requires least { 1 ≤ settings.now.captures }
         requires most { settings.now.captures ≤ 16384 }
-        ensures law { IfOk result (λ o. Law sign_plan (module_of m.now) (module_of o) settings.now.captures) }
+        ensures law { IfOk result (λ o. Law sign_plan (module_of m) (module_of o) settings.now.captures) }
     {
-        let (part, fns) = m.tree();
-        let part = part.copy(alloc)?;
+        let (part, fns) = m.into_tree();
         let fns = rewrite_functions(alloc, self, fns)?;
         Ok(TypedModule::build(part, fns))
     }

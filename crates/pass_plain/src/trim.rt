@@ -4,8 +4,9 @@
 // Assumed: nothing beside that the module is typed, so that its exports have different names.
 // Right because: a nop does nothing in no turn, no script asks for a tag, and no instruction reads the count.
 
-ghost use Rattle.std.specs.Prelude.{◌≡◌, ◌≤◌, ◌++◌, [], ◌∷◌, true, IfOk, OnOk};
+ghost use Rattle.std.specs.Prelude.{◌≡◌, ◌≤◌, ◌++◌, [], ◌∷◌, true, IsTrue, IfOk, OnOk};
 ghost use Rattle.typed_trees.specs.Typed.{module_of};
+ghost use Rattle.rewriting_kit.specs.Rewrites.{Stays};
 ghost use Rattle.pass_law.specs.Law.{Law};
 ghost use Rattle.pass_law.specs.Needs.{needs_of};
 ghost use Rattle.pass_law.specs.Stages.{Stage};
@@ -15,11 +16,12 @@ ghost use Rattle.pass_plain.specs.Trimming.{by_trimming, untagged, trimmed_part}
 
 use crate::bodies::rewrite_functions;
 use crate::counts::ask_for_count;
-use num_core::lists::TryCopy;
+use owned_lists::Drain;
 use pass_law::{Pass, Settings};
 use rewriting_kit::{Rewriting, keep};
 use sqlite_items::Items;
 use std::alloc::{AllocError, Global};
+use std::mem;
 use typed_trees::{Nodes, Signature, TypedFn, TypedModule};
 use wasm_ast::module::{Export, ExportDesc, Instr, Module};
 
@@ -36,17 +38,23 @@ impl Rewriting<()> for Trim {
         ensures { result ≡ no_entry _head.now }
     {}
 
+    fn stays(&self, head: &Instr) -> bool
+        ensures { IsTrue result → Stays by_trimming head.now }
+    {
+        !matches!(head, Instr::Nop)
+    }
+
     fn layer(
         &self,
         alloc: Global,
         _around: &[()],
-        head: &Instr,
-        types: &Signature,
+        head: Instr,
+        types: Signature,
         first: Nodes,
         second: Nodes,
         out: &mut Nodes,
     ) -> Result<(), AllocError>
-        ensures { OnOk result (out.new ≡ out.old ++ by_trimming _around.now head.now types.now.0 types.now.1 first second) }
+        ensures { OnOk result (out.new ≡ out.old ++ by_trimming _around.now head types.0 types.1 first second) }
     {
         match head {
             Instr::Nop => Ok(()),
@@ -56,59 +64,57 @@ impl Rewriting<()> for Trim {
 }
 
 /// Puts an export that is no tag behind others.
-fn put_untagged(alloc: Global, export: &Export, out: &mut Items<Export>) -> Result<(), AllocError>
-    ensures { OnOk result (out.new ≡ out.old ++ untagged (export.now ∷ [])) }
+fn put_untagged(export: Export, out: &mut Items<Export>) -> Result<(), AllocError>
+    ensures { OnOk result (out.new ≡ out.old ++ untagged (export ∷ [])) }
 {
     match export.desc {
         ExportDesc::Tag(_) => Ok(()),
-        _ => out.push(export.copy(alloc)?),
+        _ => out.push(export),
     }
 }
 
 /// The exports that are no tags.
-fn untagged_exports(alloc: Global, exports: &[Export]) -> Result<Items<Export>, AllocError>
-    ensures { IfOk result (λ kept. kept ≡ untagged exports.now) }
+fn untagged_exports(alloc: Global, exports: Items<Export>) -> Result<Items<Export>, AllocError>
+    ensures { IfOk result (λ kept. kept ≡ untagged exports) }
 {
-    let mut kept = Items::new(alloc);
-    for export in exports {
-        put_untagged(alloc, export, &mut kept)?;
+    let mut kept = Items::from_vec(Vec::with_capacity(alloc, exports.len())?);
+    let mut rest = Drain::new(alloc, exports)?;
+    while let Some(export) = rest.next() {
+        put_untagged(export, &mut kept)?;
     }
     Ok(kept)
 }
 
 /// The parts without what goes.
-fn trimmed_part(alloc: Global, part: &Module, fns: &[TypedFn]) -> Result<Module, AllocError>
-    ensures { IfOk result (λ new. new ≡ trimmed_part (part.now, fns.now)) }
+fn trimmed_part(alloc: Global, part: Module, fns: &[TypedFn]) -> Result<Module, AllocError>
+    ensures { IfOk result (λ new. new ≡ trimmed_part (part, fns.now)) }
 {
-    let exports = untagged_exports(alloc, part.exports.as_slice())?;
-    let count = if ask_for_count(fns) {
-        part.data_count
-    } else {
-        None
-    };
-    let mut new = part.copy(alloc)?;
-    new.exports = exports;
-    new.data_count = count;
+    let mut new = part;
+    if !ask_for_count(fns) {
+        new.data_count = None;
+    }
+    let exports = mem::replace(&mut new.exports, Items::new(alloc));
+    new.exports = untagged_exports(alloc, exports)?;
     Ok(new)
 }
 
 impl Pass for Trim {
     ghost plan = { trim_plan };
 
-    fn lower(
+    fn lower_owned(
         &self,
         alloc: Global,
-        m: &TypedModule,
+        m: TypedModule,
         settings: &Settings,
     ) -> Result<TypedModule, AllocError>
-        requires takes { trim_plan.takes (needs_of (module_of m.now)) ≡ true }
-        requires stage { Stage (module_of m.now) }
+        requires takes { trim_plan.takes (needs_of (module_of m)) ≡ true }
+        requires stage { Stage (module_of m) }
         requires least { 1 ≤ settings.now.captures }
         requires most { settings.now.captures ≤ 16384 }
-        ensures law { IfOk result (λ o. Law trim_plan (module_of m.now) (module_of o) settings.now.captures) }
+        ensures law { IfOk result (λ o. Law trim_plan (module_of m) (module_of o) settings.now.captures) }
     {
-        let (part, fns) = m.tree();
-        let part = trimmed_part(alloc, part, fns)?;
+        let (part, fns) = m.into_tree();
+        let part = trimmed_part(alloc, part, fns.as_slice())?;
         let fns = rewrite_functions(alloc, self, fns)?;
         Ok(TypedModule::build(part, fns))
     }

@@ -5,3 +5,5 @@
 mod nested;
 #[cfg(test)]
 mod pipeline;
+#[cfg(test)]
+mod taking;

@@ -10,7 +10,7 @@ use typed_trees::{Node, Nodes, Signature};
 use wasm_ast::module::{BlockType, Instr, Op, Ty};
 
 /// An instruction without bodies that takes and gives these types, as a node behind others.
-fn put(alloc: Global, head: &Instr, types: &Signature, out: &mut Nodes) -> Result<(), AllocError> {
+fn put(alloc: Global, head: Instr, types: Signature, out: &mut Nodes) -> Result<(), AllocError> {
     let none = Items::new(alloc);
     keep(alloc, head, types, Items::new(alloc), none, out)
 }
@@ -19,19 +19,19 @@ fn put(alloc: Global, head: &Instr, types: &Signature, out: &mut Nodes) -> Resul
 fn extension(alloc: Global) -> Result<Nodes, AllocError> {
     let mut body = Items::new(alloc);
     let nothing = Signature::new(alloc, &[], &[])?;
-    put(alloc, &Instr::Nop, &nothing, &mut body)?;
+    put(alloc, Instr::Nop, nothing, &mut body)?;
     let byte = Signature::new(alloc, &[Ty::I32], &[Ty::I32])?;
     let extend = Instr::Pure(Op::Convert(Conv::S8of32));
-    put(alloc, &extend, &byte, &mut body)?;
+    put(alloc, extend, byte, &mut body)?;
     Ok(body)
 }
 
 /// An instruction that holds such code, as a node behind others.
-fn put_form(alloc: Global, head: &Instr, out: &mut Nodes) -> Result<(), AllocError> {
+fn put_form(alloc: Global, head: Instr, out: &mut Nodes) -> Result<(), AllocError> {
     let nothing = Signature::new(alloc, &[], &[])?;
     let first = extension(alloc)?;
     let second = extension(alloc)?;
-    keep(alloc, head, &nothing, first, second, out)
+    keep(alloc, head, nothing, first, second, out)
 }
 
 /// A block, a loop, a try_table and an if.
@@ -39,13 +39,13 @@ fn forms(alloc: Global) -> Result<Nodes, AllocError> {
     let none = BlockType::Empty;
     let mut nodes = Items::new(alloc);
     let block = Instr::Block(none, Items::new(alloc));
-    put_form(alloc, &block, &mut nodes)?;
+    put_form(alloc, block, &mut nodes)?;
     let cycle = Instr::Loop(none, Items::new(alloc));
-    put_form(alloc, &cycle, &mut nodes)?;
+    put_form(alloc, cycle, &mut nodes)?;
     let guard = Instr::TryTable(none, Items::new(alloc), Items::new(alloc));
-    put_form(alloc, &guard, &mut nodes)?;
+    put_form(alloc, guard, &mut nodes)?;
     let choice = Instr::If(none, Items::new(alloc), Items::new(alloc));
-    put_form(alloc, &choice, &mut nodes)?;
+    put_form(alloc, choice, &mut nodes)?;
     Ok(nodes)
 }
 
@@ -70,9 +70,8 @@ fn are_rewritten(nodes: &[Node]) -> bool {
 
 /// They without nops and sign extensions.
 fn rewritten_forms(alloc: Global) -> Result<Nodes, AllocError> {
-    let nodes = forms(alloc)?;
-    let trimmed = rewrite(alloc, &Trim, nodes.as_slice())?;
-    rewrite(alloc, &Sign, trimmed.as_slice())
+    let trimmed = rewrite(alloc, &Trim, forms(alloc)?)?;
+    rewrite(alloc, &Sign, trimmed)
 }
 
 #[test]

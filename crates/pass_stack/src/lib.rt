@@ -15,4 +15,4 @@ mod words;
 
 pub use entries::{outside_profile, profile};
 pub use outside::Outside;
-pub use pipeline::{lower_module, lower_stages};
+pub use pipeline::{lower_module, lower_module_owned, lower_stages};

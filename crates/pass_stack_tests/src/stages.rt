@@ -9,7 +9,8 @@ ghost use Rattle.wasm_ast.specs.Counts.{Agrees};
 use crate::outside::SETTINGS;
 use host_kit::{Event, Script, fits, print, read_script};
 use module_reading::FILE_LIMIT;
-use pass_stack::{lower_stages, profile};
+use pass_cross::cross;
+use pass_stack::{lower_module, lower_stages, profile};
 use read_new::read;
 use run_new::run_new;
 use std::alloc::Global;
@@ -100,23 +101,25 @@ fn shows(alloc: Global, m: &TypedModule, script: &Script, row: &Row) -> bool {
     }
 }
 
-/// Whether what the stages leave shows what is expected.
-fn last_shows(alloc: Global, m: &TypedModule, script: &Script, row: &Row) -> bool
-    requires { outside_stack (module_of m.now) ≡ None }
+/// Whether what the stages leave shows what is expected, and can be written as 1.0 has it.
+fn last_shows(alloc: Global, m: TypedModule, script: &Script, row: &Row) -> bool
+    requires { outside_stack (module_of m) ≡ None }
 {
     match lower_stages(alloc, m, &SETTINGS) {
-        Ok(last) => shows(alloc, &last, script, row),
+        Ok(last) => shows(alloc, &last, script, row) && cross(alloc, &last).is_ok(),
         Err(_) => false,
     }
 }
 
-fn both_show(alloc: Global, m: &TypedModule, row: &Row) -> bool
-    requires { outside_stack (module_of m.now) ≡ None }
+fn both_show(alloc: Global, m: TypedModule, row: &Row) -> bool
+    requires { outside_stack (module_of m) ≡ None }
 {
-    match read_script(alloc, row.script.as_bytes()) {
-        Ok(script) => shows(alloc, m, &script, row) && last_shows(alloc, m, &script, row),
-        Err(_) => false,
-    }
+    let Ok(script) = read_script(alloc, row.script.as_bytes()) else {
+        return false;
+    };
+    shows(alloc, &m, &script, row)
+        && lower_module(alloc, &m, &SETTINGS).is_ok()
+        && last_shows(alloc, m, &script, row)
 }
 
 /// How many of the rows come to what they should.
@@ -124,7 +127,7 @@ fn right_rows(alloc: Global) -> usize {
     let mut right: usize = 0;
     for row in &ROWS {
         if let Some(m) = typed_of(alloc, row.module) {
-            if both_show(alloc, &m, row) {
+            if both_show(alloc, m, row) {
                 right = right.wrapping_add(1);
             }
         }

@@ -1,10 +1,12 @@
 pub mod Joining
 pub mod Typing
 pub mod Folding
+pub mod Unchanged
 pub mod Staying
 pub mod Plain
 pub mod Lines
 pub mod Trees
+pub mod Depths
 pub mod Showing
 pub mod MovingForms
 pub mod MovedParts

@@ -1,5 +1,5 @@
 -- Rewritings of typed trees: what becomes of one node, whose bodies are rewritten already, and of all of them.
-use Rattle.std.specs.Prelude.{List, [], ◌∷◌, ◌++◌, flat_map, Option, Some, None}
+use Rattle.std.specs.Prelude.{◌≡◌, List, [], ◌∷◌, ◌++◌, flat_map, Option, Some, None}
 use Rattle.wasm_ast.specs.declared.module.ty.Ty.{Ty}
 use Rattle.wasm_ast.specs.declared.module.code.Instr.{Instr}
 use Rattle.typed_trees.specs.declared.node.Bodies.{Bodies}
@@ -36,3 +36,7 @@ held first second = Some (record { first = first; second = second })
 
 abbrev pub node_of : Instr → List Ty → List Ty → List Node → List Node → Node
 node_of head takes gives first second = roll-Node (record { head = head; types = (takes, gives); bodies = held first second })
+
+-- a node with this instruction stays as it is
+abbrev pub Stays : {E : Type 0} → Layer E → Instr → Type 0
+Stays {E} layer head = (x : List E) (takes gives : List Ty) (first second : List Node) → layer x head takes gives first second ≡ node_of head takes gives first second ∷ []

@@ -3,7 +3,6 @@
 ghost use Rattle.std.specs.Prelude.{◌≡◌, ◌++◌, [], ◌∷◌, IfOk, OnOk};
 ghost use Rattle.rewriting_kit.specs.Rewrites.{held, node_of};
 
-use num_core::lists::TryCopy;
 use sqlite_items::Boxed;
 use std::alloc::{AllocError, Global};
 use typed_trees::{Bodies, Node, Nodes, Signature};
@@ -26,18 +25,18 @@ fn held(
 /// Puts a node with this instruction, these types and these bodies behind other nodes. It fails for want of memory alone.
 pub fn keep(
     alloc: Global,
-    head: &Instr,
-    types: &Signature,
+    head: Instr,
+    types: Signature,
     first: Nodes,
     second: Nodes,
     out: &mut Nodes,
 ) -> Result<(), AllocError>
-    ensures { OnOk result (out.new ≡ out.old ++ node_of head.now types.now.0 types.now.1 first second ∷ []) }
+    ensures { OnOk result (out.new ≡ out.old ++ node_of head types.0 types.1 first second ∷ []) }
 {
     let bodies = held(alloc, first, second)?;
     out.push(Node {
-        head: head.copy(alloc)?,
-        types: types.copy(alloc)?,
+        head,
+        types,
         bodies,
     })
 }

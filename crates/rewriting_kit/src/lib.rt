@@ -6,6 +6,7 @@
 #![tactic(auto)]
 
 mod keeping;
+mod kept;
 mod rewriting;
 
 pub use keeping::keep;

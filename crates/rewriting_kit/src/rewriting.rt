@@ -1,12 +1,14 @@
 // All nodes of a body, one after another.
 
-ghost use Rattle.std.specs.Prelude.{◌≡◌, ◌++◌, [], ◌∷◌, IfOk, OnOk};
-ghost use Rattle.rewriting_kit.specs.Rewrites.{Layer, rewrite, rewritten};
+ghost use Rattle.std.specs.Prelude.{◌≡◌, ◌++◌, [], ◌∷◌, IsTrue, IfOk, OnOk};
+ghost use Rattle.rewriting_kit.specs.Rewrites.{Layer, Stays, rewrite, rewritten};
 ghost use Rattle.wasm_ast.specs.declared.module.code.Instr.{Instr};
 
+use crate::kept::all_stay;
+use owned_lists::Drain;
 use sqlite_items::Items;
 use std::alloc::{AllocError, Global};
-use typed_trees::{Node, Nodes, Signature};
+use typed_trees::{Bodies, Node, Nodes, Signature};
 use wasm_ast::module::Instr;
 
 /// What becomes of each node of typed code. E is what is known of an open body.
@@ -21,6 +23,10 @@ pub trait Rewriting<E: Copy> {
     fn entry(&self, head: &Instr) -> E
         ensures { result ≡ entry self.now head.now };
 
+    /// Whether a node with this instruction is known to stay as it is; to say no is always right.
+    fn stays(&self, head: &Instr) -> bool
+        ensures { IsTrue result → Stays (layer self.now) head.now };
+
     /// Puts what becomes of a node behind other nodes: by what is known of the bodies around it, the outermost first, its
     /// instruction without its bodies, the types that it takes and gives, and its bodies, which are rewritten already. It
     /// fails for want of memory alone.
@@ -28,23 +34,27 @@ pub trait Rewriting<E: Copy> {
         &self,
         alloc: Global,
         around: &[E],
-        head: &Instr,
-        types: &Signature,
+        head: Instr,
+        types: Signature,
         first: Nodes,
         second: Nodes,
         out: &mut Nodes,
     ) -> Result<(), AllocError>
-        ensures { OnOk result (out.new ≡ out.old ++ layer self.now around.now head.now types.now.0 types.now.1 first second) };
+        ensures { OnOk result (out.new ≡ out.old ++ layer self.now around.now head types.0 types.1 first second) };
 }
 
-/// The nodes of a body, rewritten. It fails for want of memory alone. The recursion goes as deep as blocks nest.
+/// The nodes of a body, rewritten. Where all are known to stay they are given as they are, and else what stays of them is
+/// moved. It fails for want of memory alone. The recursion goes as deep as blocks nest.
 pub fn rewrite<E: Copy, R: Rewriting<E>>(
     alloc: Global,
     rewriting: &R,
-    nodes: &[Node],
+    nodes: Nodes,
 ) -> Result<Nodes, AllocError>
-    ensures { IfOk result (λ new. new ≡ rewritten (R.entry rewriting.now) (R.layer rewriting.now) nodes.now []) }
+    ensures { IfOk result (λ new. new ≡ rewritten (R.entry rewriting.now) (R.layer rewriting.now) nodes []) }
 {
+    if all_stay(rewriting, nodes.as_slice()) {
+        return Ok(nodes);
+    }
     let mut around = Vec::new(alloc);
     rewrite_all(alloc, rewriting, &mut around, nodes)
 }
@@ -55,13 +65,14 @@ fn rewrite_all<E: Copy, R: Rewriting<E>>(
     alloc: Global,
     rewriting: &R,
     around: &mut Vec<E>,
-    nodes: &[Node],
+    nodes: Nodes,
 ) -> Result<Nodes, AllocError>
-    ensures nodes { IfOk result (λ new. new ≡ rewritten (R.entry rewriting.now) (R.layer rewriting.now) nodes.now around.old.items) }
+    ensures nodes { IfOk result (λ new. new ≡ rewritten (R.entry rewriting.now) (R.layer rewriting.now) nodes around.old.items) }
     ensures around { IfOk result (λ new. around.new.items ≡ around.old.items) }
 {
-    let mut new = Items::new(alloc);
-    for node in nodes {
+    let mut new = Items::from_vec(Vec::with_capacity(alloc, nodes.len())?);
+    let mut rest = Drain::new(alloc, nodes)?;
+    while let Some(node) = rest.next() {
         rewrite_node(alloc, rewriting, around, node, &mut new)?;
     }
     Ok(new)
@@ -73,24 +84,26 @@ fn rewrite_node<E: Copy, R: Rewriting<E>>(
     alloc: Global,
     rewriting: &R,
     around: &mut Vec<E>,
-    node: &Node,
+    node: Node,
     out: &mut Nodes,
 ) -> Result<(), AllocError>
-    ensures nodes { OnOk result (out.new ≡ out.old ++ rewrite (R.entry rewriting.now) (R.layer rewriting.now) node.now around.old.items) }
+    ensures nodes { OnOk result (out.new ≡ out.old ++ rewrite (R.entry rewriting.now) (R.layer rewriting.now) node around.old.items) }
     ensures around { OnOk result (around.new.items ≡ around.old.items) }
 {
+    let Node {
+        head,
+        types,
+        bodies,
+    } = node;
+    let Some(bodies) = bodies else {
+        let (first, second) = (Items::new(alloc), Items::new(alloc));
+        return rewriting.layer(alloc, around.as_slice(), head, types, first, second, out);
+    };
+    let Bodies { first, second } = bodies.into_inner();
     let depth = around.len();
-    around.push(rewriting.entry(&node.head))?;
-    let first = rewrite_all(alloc, rewriting, around, node.first())?;
-    let second = rewrite_all(alloc, rewriting, around, node.second())?;
+    around.push(rewriting.entry(&head))?;
+    let first = rewrite_all(alloc, rewriting, around, first)?;
+    let second = rewrite_all(alloc, rewriting, around, second)?;
     around.truncate(depth);
-    rewriting.layer(
-        alloc,
-        around.as_slice(),
-        &node.head,
-        &node.types,
-        first,
-        second,
-        out,
-    )
+    rewriting.layer(alloc, around.as_slice(), head, types, first, second, out)
 }

@@ -76,6 +76,15 @@ impl TypedModule {
         (&self.part, self.fns.as_slice())
     }
 
+    /// The parts and the bodies by value. It takes no memory.
+    pub fn into_tree(self) -> (Module, Items<TypedFn>)
+        ensures tree { result ≡ self }
+        ensures typed { IsTypedTree self }
+    {
+        let TypedModule { part, fns } = self;
+        (part, fns)
+    }
+
     /// The body at this place, counted from 0.
     pub fn function(&self, f: u32) -> &TypedFn
         requires { f < length self.now.1 }

@@ -1,14 +1,18 @@
 -- The typed bodies so far, and one more.
-use Rattle.std.proofs.Common.{◌≡◌, ℕ, zero, suc, ◌+◌, ◌<◌, List, [], ◌∷◌, ◌++◌, length, length-append, Option, Some, IfSome, slice_get, get_or, ap, sym, subst, ◌∙◌, arith}
+use Rattle.std.proofs.Common.{◌≡◌, ℕ, zero, suc, ◌+◌, ◌<◌, List, [], ◌∷◌, ◌++◌, length, length-append, Some, IfSome, slice_get, get_or, Err, ap, sym, subst, ◌∙◌, arith}
 use Rattle.std.proofs.lemmas.Option.{slice_get-get_or}
-use Rattle.wasm_ast.specs.declared.module.code.Body.{Body}
+use Rattle.wasm_ast.specs.Counts.{Agrees}
+use Rattle.wasm_ast.specs.declared.module.code.Body.{Body as Code}
 use Rattle.wasm_ast.specs.declared.module.parts.Module.{Module}
 use Rattle.typed_trees.specs.declared.module.TypedFn.{TypedFn}
 use Rattle.typed_trees.specs.Modules.{TypedFunc}
-use Rattle.valid_new.specs.Annotated.{Found, FoundOr, IsUntyped}
-use Rattle.valid_mod.specs.Bodies.{AreBodies}
+use Rattle.valid_new.specs.Annotated.{Found, IsUntyped}
+use Rattle.valid_mod.specs.declared.invalid.Invalid.{Invalid}
+use Rattle.valid_mod.specs.declared.invalid.Invalid.TheVariants.{Part, Body, Memory}
+use Rattle.valid_mod.specs.Bodies.{AreBodies, BodiesTyped, TellsOfBody}
 use Rattle.valid_mod.specs.Parts.{Section, BodyTyped}
-use Rattle.valid_mod.specs.Verdict.{SectionTyped, FirstBody}
+use Rattle.valid_mod.specs.Verdict.{SectionTyped, FirstBody, Tells}
+use Rattle.valid_mod.proofs.Whole.{typed_from}
 
 module _ (m : Module) where
   pub none_kept : (fns : List TypedFn) → fns ≡ [] → AreBodies m 0 fns
@@ -27,19 +31,30 @@ module _ (m : Module) where
     found = λ k. subst (λ l. IfSome (slice_get l k) (Found m k)) (sym e) (more_at (Found m) old f are.found (subst (λ k. Found m k f) (sym are.count) found) k);
   }
 
-  pub kept_at : (n k : ℕ) (fns : List TypedFn) → n ≡ k → AreBodies m n fns → AreBodies m k fns
-  kept_at n k fns e h = subst (λ j. AreBodies m j fns) e h
-
   pub body_typed : (k : ℕ) (f : TypedFn) → Found m k f → BodyTyped m k
   body_typed k f found =
       subst (λ o. IfSome o (λ t. IfSome (slice_get m.codes k) (TypedFunc m t))) (sym found.func)
       (subst (λ o. IfSome o (TypedFunc m found.index)) (sym found.code)
       (record { type = found.type; declared = found.declared; typed = found.annotated.typed }))
 
-  no_body : Body
+  no_fn : TypedFn
+  no_fn = record { locals = []; body = [] }
+
+  typed_before : (n : ℕ) (fns : List TypedFn) → AreBodies m n fns → (k : ℕ) → k < n → BodyTyped m k
+  typed_before n fns are k l =
+      body_typed k (get_or fns k no_fn) (subst (λ o. IfSome o (Found m k)) (slice_get-get_or fns k no_fn (omega (arith, are.count))) (are.found k))
+
+  -- all bodies are typed where so many are as there are
+  pub all_typed : (n : ℕ) (fns : List TypedFn) → n ≡ length m.codes → Agrees m → ((s : Section) → SectionTyped m s) → AreBodies m n fns → BodiesTyped m fns
+  all_typed n fns e counts parts are = record {
+    typed = typed_from m counts parts (λ k l. typed_before n fns are k (omega (arith, e)));
+    kept = subst (λ j. AreBodies m j fns) e are;
+  }
+
+  no_body : Code
   no_body = record { locals = []; code = [] }
 
-  at_body : (k t : ℕ) (body : Body) → slice_get m.funcs k ≡ Some t → slice_get m.codes k ≡ Some body → BodyTyped m k → TypedFunc m t body
+  at_body : (k t : ℕ) (body : Code) → slice_get m.funcs k ≡ Some t → slice_get m.codes k ≡ Some body → BodyTyped m k → TypedFunc m t body
   at_body k t body f c h =
       subst (λ o. IfSome o (TypedFunc m t)) c (subst (λ o. IfSome o (λ t. IfSome (slice_get m.codes k) (TypedFunc m t))) f h)
 
@@ -52,5 +67,9 @@ module _ (m : Module) where
   pub first_body : (place k : ℕ) → k ≡ place → length m.funcs ≡ length m.codes → place < length m.codes → ((s : Section) → SectionTyped m s) → ((j : ℕ) → j < place → BodyTyped m j) → IsUntyped m k → FirstBody m k
   first_body place k e same l parts before u = subst (λ x. IsUntyped m x → FirstBody m x) (sym e) (λ v. record { within = l; parts = parts; places_before = before; untyped = untyped_body place same l v }) u
 
-  pub found_here : (place k : ℕ) (o : Option TypedFn) (f : TypedFn) → k ≡ place → o ≡ Some f → FoundOr m k o → Found m place f
-  found_here place k o f e is h = subst (λ j. Found m j f) e (subst (FoundOr m k) is h)
+  -- the fault of the first body that is not typed is that of the module
+  pub body_fault : (place : ℕ) (fns : List TypedFn) (fault : Invalid) → Agrees m → place < length m.codes → ((s : Section) → SectionTyped m s) → AreBodies m place fns → TellsOfBody m place (Err fault) → Tells m (Err fault)
+  body_fault place fns (Part section index) counts l parts are h = absurd h
+  body_fault place fns (Body index) counts l parts are h =
+      first_body place index h.0 counts.bodies l parts (typed_before place fns are) (subst (IsUntyped m) (sym h.0) h.1)
+  body_fault place fns (Memory e) counts l parts are h = tt

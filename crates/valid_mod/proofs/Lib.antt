@@ -3,8 +3,10 @@ pub mod Constants
 pub mod Order
 pub mod Names
 pub mod Whole
+pub mod Filling
 pub mod Unique
 pub mod Keeping
+pub mod Draining
 pub mod Cutting
 pub mod Standing
 pub mod ReachableCode

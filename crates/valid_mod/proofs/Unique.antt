@@ -41,10 +41,10 @@ module _ (m : Module) where
 
   pub one_answer : (r s : Result (Unit {0}) Invalid) → Settles m r → Settles m s → r ≡ s
   one_answer (Ok a) (Ok b) p q = refl
-  one_answer (Ok a) (Err (Part n i)) p q = absurd (part_not_typed q.0 i q.2 (parts_typed m p))
+  one_answer (Ok a) (Err (Part n i)) p q = absurd (part_not_typed q.0 i q.2 (parts_typed m p.parts))
   one_answer (Ok a) (Err (Body i)) p q = absurd (body_not_typed i q p)
   one_answer (Ok a) (Err (Memory e)) p q = absurd q
-  one_answer (Err (Part n i)) (Ok b) p q = absurd (part_not_typed p.0 i p.2 (parts_typed m q))
+  one_answer (Err (Part n i)) (Ok b) p q = absurd (part_not_typed p.0 i p.2 (parts_typed m q.parts))
   one_answer (Err (Part n i)) (Err (Part k j)) p q = ap Err (one_part p.0 q.0 n k i j p.1 q.1 p.2 q.2)
   one_answer (Err (Part n i)) (Err (Body j)) p q = absurd (part_not_typed p.0 i p.2 q.parts)
   one_answer (Err (Part n i)) (Err (Memory e)) p q = absurd q

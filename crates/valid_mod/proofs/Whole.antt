@@ -81,7 +81,7 @@ names_to xs h k e is j other l at same =
     h j k e l (slice_get_within xs k e is) (ap (λ x. x.name) (get_or_from_slice_get xs j other e at) ∙ same ∙ sym (ap (λ x. x.name) (get_or_from_slice_get xs k e e is)))
 
 module _ (m : Module) where
-  parts_from : ((s : Section) → SectionTyped m s) → TypedParts m
+  pub parts_from : ((s : Section) → SectionTyped m s) → TypedParts m
   parts_from parts = record {
     types = all_places TypedFuncType m.types (parts Types);
     imports = all_places (λ i. TypedImport m i.desc) m.imports (parts Imports);
@@ -106,18 +106,18 @@ module _ (m : Module) where
   }
 
   -- and back
-  pub parts_typed : IsTyped m → (s : Section) → SectionTyped m s
-  parts_typed t Types k l = all_at TypedFuncType m.types t.parts.types k
-  parts_typed t Imports k l = all_at (λ i. TypedImport m i.desc) m.imports t.parts.imports k
-  parts_typed t Functions k l = all_at (λ x. x < length m.types) m.funcs t.parts.funcs k
-  parts_typed t Tables k l = all_at (TypedTable m) m.tables t.parts.tables k
-  parts_typed t Memories k l = all_at TypedMemory m.memories t.parts.memories k
-  parts_typed t Tags k l = all_at (TypedTag m) m.tags t.parts.tags k
-  parts_typed t Globals k l = globals_to m (imported_of global_import m) m.globals t.parts.globals k
-  parts_typed t Exports k l = if_some (λ e. TypedDesc m e.desc) (λ e. TypedDesc m e.desc × IsNew m.exports k e) (slice_get m.exports k) (λ e is p. (p, names_to m.exports t.parts.names k e is)) (all_at (λ e. TypedDesc m e.desc) m.exports t.parts.exports k)
-  parts_typed t Start k l = t.parts.start
-  parts_typed t Elements k l = all_at (TypedElement m) m.elems t.parts.elems k
-  parts_typed t Segments k l = all_at (TypedSegment m) m.datas t.parts.datas k
+  pub parts_typed : TypedParts m → (s : Section) → SectionTyped m s
+  parts_typed t Types k l = all_at TypedFuncType m.types t.types k
+  parts_typed t Imports k l = all_at (λ i. TypedImport m i.desc) m.imports t.imports k
+  parts_typed t Functions k l = all_at (λ x. x < length m.types) m.funcs t.funcs k
+  parts_typed t Tables k l = all_at (TypedTable m) m.tables t.tables k
+  parts_typed t Memories k l = all_at TypedMemory m.memories t.memories k
+  parts_typed t Tags k l = all_at (TypedTag m) m.tags t.tags k
+  parts_typed t Globals k l = globals_to m (imported_of global_import m) m.globals t.globals k
+  parts_typed t Exports k l = if_some (λ e. TypedDesc m e.desc) (λ e. TypedDesc m e.desc × IsNew m.exports k e) (slice_get m.exports k) (λ e is p. (p, names_to m.exports t.names k e is)) (all_at (λ e. TypedDesc m e.desc) m.exports t.exports k)
+  parts_typed t Start k l = t.start
+  parts_typed t Elements k l = all_at (TypedElement m) m.elems t.elems k
+  parts_typed t Segments k l = all_at (TypedSegment m) m.datas t.datas k
 
   pub bodies_typed : IsTyped m → (k : ℕ) → BodyTyped m k
   bodies_typed t k = funcs_to m m.funcs m.codes t.bodies k

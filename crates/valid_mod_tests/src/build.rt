@@ -1,10 +1,13 @@
 // Small modules, and the verdict on a module as plain data.
 
+ghost use Rattle.std.specs.Prelude.{◌≡◌, true};
+ghost use Rattle.wasm_ast.specs.Counts.{Agrees};
+
 use crate::code::{Expr, Step, code_of};
 use num_core::lists::{Bytes, Text};
 use sqlite_items::Items;
 use std::alloc::{AllocError, Global};
-use valid_mod::{Invalid, check};
+use valid_mod::{Invalid, check, validate_owned};
 use wasm_ast::lists::Types;
 use wasm_ast::module;
 use wasm_ast::module::{
@@ -22,19 +25,35 @@ pub enum Verdict {
     Other,
 }
 
-/// The verdict on the module, whose data count is told.
-pub fn verdict_on(alloc: Global, m: &Module) -> Verdict {
-    if m.funcs.len() != m.codes.len() {
-        return Verdict::Other;
-    }
+/// Whether the counts of the module agree. Its data count is told.
+fn counts_agree(m: &Module) -> bool
+    ensures { result ≡ true → Agrees m.now }
+{
     let Some(count) = m.data_count else {
-        return Verdict::Other;
+        return false;
     };
-    if count as usize != m.datas.len() {
+    m.funcs.len() == m.codes.len() && count as usize == m.datas.len()
+}
+
+/// The verdict on the module.
+pub fn verdict_on(alloc: Global, m: &Module) -> Verdict {
+    if !counts_agree(m) {
         return Verdict::Other;
     }
-    match check(alloc, m) {
-        Ok(()) => Verdict::Typed,
+    verdict_of(check(alloc, m))
+}
+
+/// The verdict on the module, which is taken apart.
+pub fn verdict_on_owned(alloc: Global, m: Module) -> Verdict {
+    if !counts_agree(&m) {
+        return Verdict::Other;
+    }
+    verdict_of(validate_owned(alloc, m))
+}
+
+fn verdict_of<A: Drop>(found: Result<A, Invalid>) -> Verdict {
+    match found {
+        Ok(_) => Verdict::Typed,
         Err(Invalid::Part { section, index }) => Verdict::Part(section, index),
         Err(Invalid::Body(index)) => Verdict::Body(index),
         Err(Invalid::Memory(_)) => Verdict::Other,

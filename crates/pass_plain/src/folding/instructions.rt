@@ -4,7 +4,6 @@ ghost use Rattle.std.specs.Prelude.{◌≡◌, [], ◌∷◌, IfOk};
 ghost use Rattle.wasm_ast.specs.Fold.{known_at};
 ghost use Rattle.pass_plain.specs.Folding.{folded_instr, folded_code, folded_mode, zero_of, folded_global};
 
-use num_core::lists::TryCopy;
 use sqlite_items::Items;
 use std::alloc::{AllocError, Global};
 use wasm_ast::folding::{Folded, fold_of};
@@ -41,12 +40,12 @@ fn alone_folded(alloc: Global, value: Folded) -> Result<Code, AllocError>
 }
 
 /// An expression, by what it folds to.
-fn folded_code(alloc: Global, code: &Code, folded: Option<Folded>) -> Result<Code, AllocError>
-    ensures { IfOk result (λ new. new ≡ folded_code code.now folded) }
+fn folded_code(alloc: Global, code: Code, folded: Option<Folded>) -> Result<Code, AllocError>
+    ensures { IfOk result (λ new. new ≡ folded_code code folded) }
 {
     match folded {
         Some(value) => alone_folded(alloc, value),
-        None => code.copy(alloc),
+        None => Ok(code),
     }
 }
 
@@ -54,14 +53,14 @@ fn folded_code(alloc: Global, code: &Code, folded: Option<Folded>) -> Result<Cod
 pub(crate) fn folded_mode(
     alloc: Global,
     known: &[Option<Folded>],
-    mode: &Mode,
+    mode: Mode,
 ) -> Result<Mode, AllocError>
-    ensures { IfOk result (λ new. new ≡ folded_mode known.now mode.now) }
+    ensures { IfOk result (λ new. new ≡ folded_mode known.now mode) }
 {
     match mode {
         Mode::Active(index, offset) => {
             let folded = fold_of(alloc, known, offset.as_slice())?;
-            Ok(Mode::Active(*index, folded_code(alloc, offset, folded)?))
+            Ok(Mode::Active(index, folded_code(alloc, offset, folded)?))
         }
         Mode::Passive => Ok(Mode::Passive),
         Mode::Declarative => Ok(Mode::Declarative),

@@ -1,14 +1,15 @@
 // The parts of a module with folded expressions.
 
-ghost use Rattle.std.specs.Prelude.{◌≡◌, ◌+◌, ◌<◌, ◌^◌, [], map, length, IfOk, OnOk};
+ghost use Rattle.std.specs.Prelude.{◌≡◌, ◌+◌, ◌<◌, ◌^◌, map, length, IfOk};
 ghost use Rattle.wasm_ast.specs.Fold.{known_globals};
 ghost use Rattle.wasm_ast.specs.Spaces.{is_global, imported};
 ghost use Rattle.pass_plain.specs.Folding.{folded_elem, folded_data, folded_globals, folded_part};
 
 use super::instructions::{folded_global, folded_mode, known_at};
-use num_core::lists::TryCopy;
+use owned_lists::Drain;
 use sqlite_items::Items;
 use std::alloc::{AllocError, Global};
+use std::mem;
 use wasm_ast::folding::{Folded, known_globals};
 use wasm_ast::module::{self, Element, Module, Segment};
 use wasm_ast::spaces::imported_globals;
@@ -17,53 +18,50 @@ use wasm_ast::spaces::imported_globals;
 fn folded_elems(
     alloc: Global,
     known: &[Option<Folded>],
-    elems: &[Element],
+    elems: Items<Element>,
 ) -> Result<Items<Element>, AllocError>
-    ensures { IfOk result (λ new. new ≡ map (folded_elem known.now) elems.now) }
+    ensures { IfOk result (λ new. new ≡ map (folded_elem known.now) elems) }
 {
-    let mut new = Items::new(alloc);
-    for e in elems {
+    let mut new = Items::from_vec(Vec::with_capacity(alloc, elems.len())?);
+    let mut rest = Drain::new(alloc, elems)?;
+    while let Some(e) = rest.next() {
         new.push(folded_elem(alloc, known, e)?)?;
     }
     Ok(new)
 }
 
 /// An element segment with a folded offset.
-fn folded_elem(alloc: Global, known: &[Option<Folded>], e: &Element) -> Result<Element, AllocError>
-    ensures { IfOk result (λ new. new ≡ folded_elem known.now e.now) }
+fn folded_elem(alloc: Global, known: &[Option<Folded>], e: Element) -> Result<Element, AllocError>
+    ensures { IfOk result (λ new. new ≡ folded_elem known.now e) }
 {
-    let mode = folded_mode(alloc, known, &e.mode)?;
-    Ok(Element {
-        mode,
-        ty: e.ty,
-        items: e.items.copy(alloc)?,
-    })
+    let Element { mode, ty, items } = e;
+    let mode = folded_mode(alloc, known, mode)?;
+    Ok(Element { mode, ty, items })
 }
 
 /// Data segments with folded offsets.
 fn folded_datas(
     alloc: Global,
     known: &[Option<Folded>],
-    datas: &[Segment],
+    datas: Items<Segment>,
 ) -> Result<Items<Segment>, AllocError>
-    ensures { IfOk result (λ new. new ≡ map (folded_data known.now) datas.now) }
+    ensures { IfOk result (λ new. new ≡ map (folded_data known.now) datas) }
 {
-    let mut new = Items::new(alloc);
-    for d in datas {
+    let mut new = Items::from_vec(Vec::with_capacity(alloc, datas.len())?);
+    let mut rest = Drain::new(alloc, datas)?;
+    while let Some(d) = rest.next() {
         new.push(folded_data(alloc, known, d)?)?;
     }
     Ok(new)
 }
 
 /// A data segment with a folded offset.
-fn folded_data(alloc: Global, known: &[Option<Folded>], d: &Segment) -> Result<Segment, AllocError>
-    ensures { IfOk result (λ new. new ≡ folded_data known.now d.now) }
+fn folded_data(alloc: Global, known: &[Option<Folded>], d: Segment) -> Result<Segment, AllocError>
+    ensures { IfOk result (λ new. new ≡ folded_data known.now d) }
 {
-    let mode = folded_mode(alloc, known, &d.mode)?;
-    Ok(Segment {
-        mode,
-        bytes: d.bytes.copy(alloc)?,
-    })
+    let Segment { mode, bytes } = d;
+    let mode = folded_mode(alloc, known, mode)?;
+    Ok(Segment { mode, bytes })
 }
 
 /// The module's own globals, the first of which has this index.
@@ -85,60 +83,6 @@ fn folded_globals(
     Ok(new)
 }
 
-/// The parts that stay: all but globals and segments.
-fn kept_parts(alloc: Global, part: &Module) -> Result<Module, AllocError>
-    ensures { IfOk result (λ new. new ≡ record part.now { globals = []; elems = []; datas = [] }) }
-{
-    let mut new = Module {
-        types: Items::new(alloc),
-        imports: Items::new(alloc),
-        funcs: Items::new(alloc),
-        tables: Items::new(alloc),
-        memories: Items::new(alloc),
-        tags: Items::new(alloc),
-        globals: Items::new(alloc),
-        exports: Items::new(alloc),
-        start: part.start,
-        elems: Items::new(alloc),
-        data_count: part.data_count,
-        codes: Items::new(alloc),
-        datas: Items::new(alloc),
-    };
-    put_types(alloc, part, &mut new)?;
-    put_spaces(alloc, part, &mut new)?;
-    put_rest(alloc, part, &mut new)?;
-    Ok(new)
-}
-
-/// Puts types, imports and functions into a module.
-fn put_types(alloc: Global, part: &Module, new: &mut Module) -> Result<(), AllocError>
-    ensures { OnOk result (new.new ≡ record new.old { types = part.now.types; imports = part.now.imports; funcs = part.now.funcs }) }
-{
-    new.types = part.types.copy(alloc)?;
-    new.imports = part.imports.copy(alloc)?;
-    new.funcs = part.funcs.copy(alloc)?;
-    Ok(())
-}
-
-/// Puts tables, memories and tags into a module.
-fn put_spaces(alloc: Global, part: &Module, new: &mut Module) -> Result<(), AllocError>
-    ensures { OnOk result (new.new ≡ record new.old { tables = part.now.tables; memories = part.now.memories; tags = part.now.tags }) }
-{
-    new.tables = part.tables.copy(alloc)?;
-    new.memories = Items::from_slice(alloc, part.memories.as_slice())?;
-    new.tags = part.tags.copy(alloc)?;
-    Ok(())
-}
-
-/// Puts exports and bodies into a module.
-fn put_rest(alloc: Global, part: &Module, new: &mut Module) -> Result<(), AllocError>
-    ensures { OnOk result (new.new ≡ record new.old { exports = part.now.exports; codes = part.now.codes }) }
-{
-    new.exports = part.exports.copy(alloc)?;
-    new.codes = part.codes.copy(alloc)?;
-    Ok(())
-}
-
 /// The index of the first global of its own, where each of them has an index.
 pub(crate) fn first_own(part: &Module) -> Result<u32, AllocError>
     ensures { IfOk result (λ first. (first ≡ imported is_global part.now) × (first + length part.now.globals < 2 ^ 32)) }
@@ -153,29 +97,33 @@ pub(crate) fn first_own(part: &Module) -> Result<u32, AllocError>
     }
 }
 
-/// Puts the globals and the segments with folded expressions into a module.
-fn put_folded(
+/// The parts with folded expressions, where it is known what each global folds to.
+fn with_folded(
     alloc: Global,
-    part: &Module,
+    part: Module,
+    first: u32,
     known: &[Option<Folded>],
-    new: &mut Module,
-) -> Result<(), AllocError>
-    requires { known.now ≡ known_globals part.now }
-    ensures { OnOk result (new.new ≡ record new.old { globals = (folded_part part.now).globals; elems = (folded_part part.now).elems; datas = (folded_part part.now).datas }) }
+) -> Result<Module, AllocError>
+    requires first { first ≡ imported is_global part }
+    requires known { known.now ≡ known_globals part }
+    requires range { first + length part.globals < 2 ^ 32 }
+    ensures { IfOk result (λ new. new ≡ folded_part part) }
 {
-    let first = first_own(part)?;
-    new.globals = folded_globals(alloc, known, first, part.globals.as_slice())?;
-    new.elems = folded_elems(alloc, known, part.elems.as_slice())?;
-    new.datas = folded_datas(alloc, known, part.datas.as_slice())?;
-    Ok(())
+    let mut new = part;
+    let globals = folded_globals(alloc, known, first, new.globals.as_slice())?;
+    new.globals = globals;
+    let elems = mem::replace(&mut new.elems, Items::new(alloc));
+    new.elems = folded_elems(alloc, known, elems)?;
+    let datas = mem::replace(&mut new.datas, Items::new(alloc));
+    new.datas = folded_datas(alloc, known, datas)?;
+    Ok(new)
 }
 
 /// The parts with folded expressions.
-pub(crate) fn folded_part(alloc: Global, part: &Module) -> Result<Module, AllocError>
-    ensures { IfOk result (λ new. new ≡ folded_part part.now) }
+pub(crate) fn folded_part(alloc: Global, part: Module) -> Result<Module, AllocError>
+    ensures { IfOk result (λ new. new ≡ folded_part part) }
 {
-    let known = known_globals(alloc, part)?;
-    let mut new = kept_parts(alloc, part)?;
-    put_folded(alloc, part, known.as_slice(), &mut new)?;
-    Ok(new)
+    let known = known_globals(alloc, &part)?;
+    let first = first_own(&part)?;
+    with_folded(alloc, part, first, known.as_slice())
 }

@@ -8,8 +8,8 @@ ghost use Rattle.pass_plain.specs.Folding.{type_at, setting_types, setting_node,
 
 use super::parts::folded_part;
 use super::setting::put_call;
-use num_core::lists::TryCopy;
 use num_core::operators::Width;
+use owned_lists::Drain;
 use rewriting_kit::keep;
 use sqlite_items::Items;
 use std::alloc::{AllocError, Global};
@@ -56,20 +56,21 @@ fn setting_types(alloc: Global, globals: &[Ty], instr: &Instr) -> Result<Signatu
 }
 
 /// Puts an instruction of that code as a node behind others.
-fn put_node(alloc: Global, globals: &[Ty], instr: &Instr, out: &mut Nodes) -> Result<(), AllocError>
-    ensures { OnOk result (out.new ≡ out.old ++ setting_node globals.now instr.now ∷ []) }
+fn put_node(alloc: Global, globals: &[Ty], instr: Instr, out: &mut Nodes) -> Result<(), AllocError>
+    ensures { OnOk result (out.new ≡ out.old ++ setting_node globals.now instr ∷ []) }
 {
-    let types = setting_types(alloc, globals, instr)?;
+    let types = setting_types(alloc, globals, &instr)?;
     let none = Items::new(alloc);
-    keep(alloc, instr, &types, Items::new(alloc), none, out)
+    keep(alloc, instr, types, Items::new(alloc), none, out)
 }
 
 /// That code as nodes.
-fn setting_nodes(alloc: Global, globals: &[Ty], code: &[Instr]) -> Result<Nodes, AllocError>
-    ensures { IfOk result (λ nodes. nodes ≡ map (setting_node globals.now) code.now) }
+fn setting_nodes(alloc: Global, globals: &[Ty], code: Code) -> Result<Nodes, AllocError>
+    ensures { IfOk result (λ nodes. nodes ≡ map (setting_node globals.now) code) }
 {
-    let mut nodes = Items::new(alloc);
-    for instr in code {
+    let mut nodes = Items::from_vec(Vec::with_capacity(alloc, code.len())?);
+    let mut rest = Drain::new(alloc, code)?;
+    while let Some(instr) = rest.next() {
         put_node(alloc, globals, instr, &mut nodes)?;
     }
     Ok(nodes)
@@ -81,43 +82,11 @@ fn start_fn(alloc: Global, part: &Module, mut code: Code) -> Result<TypedFn, All
 {
     put_call(part.start, &mut code)?;
     let globals = global_types(alloc, part)?;
-    let body = setting_nodes(alloc, globals.as_slice(), code.as_slice())?;
+    let body = setting_nodes(alloc, globals.as_slice(), code)?;
     Ok(TypedFn {
         locals: Types::new(alloc),
         body,
     })
-}
-
-/// The functions, and behind them the one that runs first, where there is code to be run.
-pub(crate) fn with_start_fn(
-    alloc: Global,
-    part: &Module,
-    code: Code,
-    fns: &[TypedFn],
-) -> Result<Items<TypedFn>, AllocError>
-    ensures { IfOk result (λ new. new ≡ fns.now ++ start_fns part.now code) }
-{
-    let mut new = Items::new(alloc);
-    for f in fns {
-        new.push(f.copy(alloc)?)?;
-    }
-    put_start_fn(alloc, part, code, &mut new)?;
-    Ok(new)
-}
-
-/// Puts the function that runs first behind others, where there is code to be run.
-fn put_start_fn(
-    alloc: Global,
-    part: &Module,
-    code: Code,
-    out: &mut Items<TypedFn>,
-) -> Result<(), AllocError>
-    ensures { OnOk result (out.new ≡ out.old ++ start_fns part.now code) }
-{
-    if code.is_empty() {
-        return Ok(());
-    }
-    out.push(start_fn(alloc, part, code)?)
 }
 
 /// A number as an index, where it can be one.
@@ -152,17 +121,23 @@ fn put_start(alloc: Global, m: &mut Module) -> Result<(), AllocError>
     Ok(())
 }
 
-/// The parts with folded expressions, and with the function that runs first, where there is code to be run.
-pub(crate) fn started_part(
+/// The parts with folded expressions and the functions, and behind them the function that runs first, where there is code
+/// to be run.
+pub(crate) fn started(
     alloc: Global,
-    part: &Module,
-    code: &[Instr],
-) -> Result<Module, AllocError>
-    ensures { IfOk result (λ new. new ≡ started_part code.now (folded_part part.now)) }
+    part: Module,
+    code: Code,
+    fns: Items<TypedFn>,
+) -> Result<(Module, Items<TypedFn>), AllocError>
+    ensures part { IfOk result (λ new. new.0 ≡ started_part code (folded_part part)) }
+    ensures functions { IfOk result (λ new. new.1 ≡ fns ++ start_fns part code) }
 {
-    let mut new = folded_part(alloc, part)?;
-    if !code.is_empty() {
-        put_start(alloc, &mut new)?;
+    if code.is_empty() {
+        return Ok((folded_part(alloc, part)?, fns));
     }
-    Ok(new)
+    let mut all = fns;
+    all.push(start_fn(alloc, &part, code)?)?;
+    let mut new = folded_part(alloc, part)?;
+    put_start(alloc, &mut new)?;
+    Ok((new, all))
 }

@@ -7,9 +7,7 @@ use Rattle.valid_mod.proofs.Unique.{only_answer}
 use Rattle.valid_mod.proofs.validation.validate.Goals as goal
 
 pub build-requires : goal.build-requires
-build-requires c =
-    let m = c.args.m.now in
-    whole_tree m c.in_ok-fns.fns c.requires c.in_ok-fns.ensures.kept c.in_ok-parts.parts c.in_ok-parts.ensures c.in_ok-fns.ensures.typed.parts
+build-requires c = whole_tree c.args.m.now c.in_ok-fns.fns c.in_ok-fns.ensures c.in_ok-parts.parts c.in_ok-parts.ensures
 
 pub returns-in_err-fns-clause-only : goal.returns-in_err-fns-clause-only
 returns-in_err-fns-clause-only c =
@@ -19,7 +17,7 @@ returns-in_err-fns-clause-only c =
 pub returns-clause-stands : goal.returns-clause-stands
 returns-clause-stands c =
     let m = c.args.m.now in
-    subst (StandsFor m) (sym c.build.ensures) (stands m c.in_ok-fns.fns c.requires c.in_ok-fns.ensures.kept c.in_ok-parts.parts c.in_ok-parts.ensures)
+    subst (StandsFor m) (sym c.build.ensures) (stands m c.in_ok-fns.fns c.in_ok-fns.ensures c.in_ok-parts.parts c.in_ok-parts.ensures)
 
 pub returns-clause-only : goal.returns-clause-only
 returns-clause-only c = λ other h. only_answer c.args.m.now (Ok tt) other c.in_ok-fns.ensures.typed h
@@ -27,4 +25,4 @@ returns-clause-only c = λ other h. only_answer c.args.m.now (Ok tt) other c.in_
 pub returns-clause-meaning : goal.returns-clause-meaning
 returns-clause-meaning c =
     let m = c.args.m.now in
-    same_runs m _ (subst (StandsFor m) (sym c.build.ensures) (stands m c.in_ok-fns.fns c.requires c.in_ok-fns.ensures.kept c.in_ok-parts.parts c.in_ok-parts.ensures))
+    same_runs m _ (subst (StandsFor m) (sym c.build.ensures) (stands m c.in_ok-fns.fns c.in_ok-fns.ensures c.in_ok-parts.parts c.in_ok-parts.ensures))

@@ -7,14 +7,14 @@ use Rattle.pass_plain.specs.Folding.{tree_without_constants}
 use Rattle.pass_plain.proofs.TypedConstants.{AreInRange}
 use Rattle.pass_plain.proofs.FoldableFrom.{foldable_from}
 use Rattle.pass_plain.proofs.LawfulConstants.{lawful_constants}
-use Rattle.pass_plain.proofs.computed.ConstPass.lower.Goals as goal
+use Rattle.pass_plain.proofs.computed.ConstPass.lower_owned.Goals as goal
 
 pub without_constants-requires : goal.without_constants-requires
-without_constants-requires c = record { foldable = foldable_from (module_of c.args.m.now) c.requires.takes c.requires.stage c.tree.ensures.typed.parts }
+without_constants-requires c = record { foldable = foldable_from (module_of c.args.m) c.requires.takes c.requires.stage c.tree.ensures.typed.parts }
 
 pub returns : goal.returns
 returns c =
-    let m = c.args.m.now in
+    let m = c.args.m in
     let captures = c.args.settings.now.captures in
     let range = c.constants_in_range.ensures in
     let at : AreInRange m.0 = subst AreInRange c.tree.ensures.part (record { globals = range.globals; elems = range.elems; datas = range.datas }) in
