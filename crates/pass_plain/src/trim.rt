@@ -12,7 +12,7 @@ ghost use Rattle.pass_law.specs.Needs.{needs_of};
 ghost use Rattle.pass_law.specs.Stages.{Stage};
 ghost use Rattle.pass_plain.specs.Bodies.{no_entry};
 ghost use Rattle.pass_plain.specs.Plans.{trim_plan, trim_lawful};
-ghost use Rattle.pass_plain.specs.Trimming.{by_trimming, untagged, trimmed_part};
+ghost use Rattle.pass_plain.specs.Trimming.{by_trimming, untagged, used_count, trimmed_part};
 
 use crate::bodies::rewrite_functions;
 use crate::counts::ask_for_count;
@@ -85,14 +85,22 @@ fn untagged_exports(alloc: Global, exports: Items<Export>) -> Result<Items<Expor
     Ok(kept)
 }
 
+/// The count of data segments, where some body asks for it. Most modules have none, and then no body is looked at.
+fn used_count(count: Option<u32>, fns: &[TypedFn]) -> Option<u32>
+    ensures { result ≡ used_count count fns.now }
+{
+    match count {
+        Some(_) if ask_for_count(fns) => count,
+        _ => None,
+    }
+}
+
 /// The parts without what goes.
 fn trimmed_part(alloc: Global, part: Module, fns: &[TypedFn]) -> Result<Module, AllocError>
     ensures { IfOk result (λ new. new ≡ trimmed_part (part, fns.now)) }
 {
     let mut new = part;
-    if !ask_for_count(fns) {
-        new.data_count = None;
-    }
+    new.data_count = used_count(new.data_count, fns);
     let exports = mem::replace(&mut new.exports, Items::new(alloc));
     new.exports = untagged_exports(alloc, exports)?;
     Ok(new)

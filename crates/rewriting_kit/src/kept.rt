@@ -40,6 +40,17 @@ fn node_stays<E: Copy, R: Rewriting<E>>(rewriting: &R, node: &Node) -> bool
     all_stay(rewriting, bodies.second.as_slice())
 }
 
+/// Whether a node without bodies is known to stay, as most are: it is then moved whole.
+#[inline(always)]
+pub(crate) fn is_kept_leaf<E: Copy, R: Rewriting<E>>(rewriting: &R, node: &Node) -> bool
+    ensures { IsTrue result → (x : List E) → rewrite (R.entry rewriting.now) (R.layer rewriting.now) node.now x ≡ node.now ∷ [] }
+{
+    match &node.bodies {
+        Some(_) => false,
+        None => rewriting.stays(&node.head),
+    }
+}
+
 /// Whether some node stands in one of the bodies.
 fn have_nodes(bodies: &Bodies<Node>) -> bool
     ensures { IsTrue result → held bodies.now.first bodies.now.second ≡ Some bodies.now }

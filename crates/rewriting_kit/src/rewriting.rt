@@ -4,7 +4,7 @@ ghost use Rattle.std.specs.Prelude.{◌≡◌, ◌++◌, [], ◌∷◌, IsTrue, 
 ghost use Rattle.rewriting_kit.specs.Rewrites.{Layer, Stays, rewrite, rewritten};
 ghost use Rattle.wasm_ast.specs.declared.module.code.Instr.{Instr};
 
-use crate::kept::all_stay;
+use crate::kept::{all_stay, is_kept_leaf};
 use owned_lists::Drain;
 use sqlite_items::Items;
 use std::alloc::{AllocError, Global};
@@ -90,6 +90,9 @@ fn rewrite_node<E: Copy, R: Rewriting<E>>(
     ensures nodes { OnOk result (out.new ≡ out.old ++ rewrite (R.entry rewriting.now) (R.layer rewriting.now) node around.old.items) }
     ensures around { OnOk result (around.new.items ≡ around.old.items) }
 {
+    if is_kept_leaf(rewriting, &node) {
+        return out.push(node);
+    }
     let Node {
         head,
         types,
